@@ -1,0 +1,40 @@
+-- The readings of the code's answers are injective: an answer is known by its number and place, or its value.
+-- Not here: which answer is given when (proofs/Verdicts). Assumes nothing.
+use mathlib.Core.Path.{_≡_, refl, sym, _∙_, ap}
+use mathlib.Core.List.{List, [], _∷_}
+use Prim.Native.Nat.{ℕ, _-_}
+use lib.ListN.{getD}
+use Rattle.answers.specs.Verdicts.{Verdict, done, refused}
+use Rattle.answers.specs.Answers.{told, refusedBy, filled}
+use Rattle.answers.specs.declared.Refusal.{Refusal}
+use Rattle.answers.specs.declared.Refusal.the-variants.{OverLimit, BadCodePoint, NoRoom, NoSyllable, NoName, NoRecord, BadLayout}
+use Rattle.answers.specs.declared.Filled.{Filled}
+use Rattle.answers.specs.declared.Filled.the-variants.{Done, Refused}
+
+-- the refusal of a number and a place
+abbrev untold : ℕ → ℕ → Refusal
+untold number place =
+    getD (OverLimit place ∷ BadCodePoint place ∷ NoRoom place ∷ NoSyllable ∷ NoName ∷ NoRecord place ∷ BadLayout place ∷ []) (number - 1) NoName
+
+untold-told : (r : Refusal) → untold (told r .number) (told r .place) ≡ r
+untold-told (OverLimit p) = refl
+untold-told (BadCodePoint p) = refl
+untold-told (NoRoom p) = refl
+untold-told NoSyllable = refl
+untold-told NoName = refl
+untold-told (NoRecord p) = refl
+untold-told (BadLayout p) = refl
+
+-- two refusals with one number and one place are one
+pub told-injective : (r s : Refusal) → told r .number ≡ told s .number → told r .place ≡ told s .place → r ≡ s
+told-injective r s n p = sym (untold-told r) ∙ rw (n, p) (untold-told s)
+
+module _ {Value : Type 0} where
+  pub refusedBy-injective : (r s : Refusal) → refusedBy {Value = Value} r ≡ refusedBy s → r ≡ s
+  refusedBy-injective r s e = told-injective r s (cc) (cc)
+
+pub filled-injective : (a b : Filled) → filled a ≡ filled b → a ≡ b
+filled-injective (Done m) (Done n) e = cc
+filled-injective (Done m) (Refused s) e = cc
+filled-injective (Refused r) (Done n) e = cc
+filled-injective (Refused r) (Refused s) e = ap Refused (refusedBy-injective r s e)

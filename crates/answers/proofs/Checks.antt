@@ -1,0 +1,130 @@
+-- Laws of the checks: a bad code point by its range; the first one, at a loop's index; each check where it refuses and where it passes.
+-- Not here: the verdicts made of them (proofs/Verdicts). Assumes nothing.
+use mathlib.Core.Path.{_≡_, refl, sym, _∙_}
+use mathlib.Core.Bool.{true, false}
+use mathlib.Core.List.{List, [], _∷_}
+use Prim.Native.Nat.{ℕ, _+_, _≤_, _<_}
+use native.Mathlib.Numerals.{add-one}
+use native.Mathlib.Omega.{arith}
+use lib.ListN.{length, getD, drop, drop-of-length-le}
+use lib.Seq.{drop-cons}
+use lib.Dec.{ltb}
+use borrow.Author.Tests.{lt-ltb, le-ltb, ltb-true, ltb-false}
+use Rattle.laws.specs.Ranges.{within}
+use Rattle.laws.proofs.Bools.{test}
+use Rattle.laws.proofs.Ranges.{within-yes, within-below, within-above}
+use Rattle.answers.specs.Checks.{Check, passes, refuses, overLimit, bad, firstBad, badCodePoint, noRoom, lacking, takesText}
+
+-- ---- bad, by the ranges
+
+pub good-low : (c : ℕ) → c < 0xD800 → bad c ≡ false
+unfolding bad
+good-low c h = simp (le-ltb 0x10FFFF c (omega arith), within-below 0xD800 0xDFFF c h)
+
+pub good-high : (c : ℕ) → 0xDFFF < c → c ≤ 0x10FFFF → bad c ≡ false
+unfolding bad
+good-high c h k = simp (le-ltb 0x10FFFF c k, within-above 0xD800 0xDFFF c h)
+
+pub bad-surrogate : (c : ℕ) → 0xD800 ≤ c → c ≤ 0xDFFF → bad c ≡ true
+unfolding bad
+bad-surrogate c h k = simp (le-ltb 0x10FFFF c (omega arith), within-yes 0xD800 0xDFFF c h k)
+
+pub bad-over : (c : ℕ) → 0x10FFFF < c → bad c ≡ true
+unfolding bad
+bad-over c h = simp (lt-ltb 0x10FFFF c h)
+
+-- ---- firstBad, at a loop's index: n is the index wanted
+
+module _ (l : List ℕ) (i n : ℕ) where
+  at-index : i < length l → drop i l ≡ getD l i 0 ∷ drop (i + 1) l
+  at-index h = rw add-one (drop-cons l i 0 h)
+
+  pub first-bad-next : i < length l → bad (getD l i 0) ≡ false → i + firstBad (drop i l) ≡ n → i + 1 + firstBad (drop (i + 1) l) ≡ n
+  unfolding firstBad
+  first-bad-next h e q = omega (arith, simp e at (rw (at-index h) at q))
+
+  pub first-bad-here : i < length l → bad (getD l i 0) ≡ true → i + firstBad (drop i l) ≡ n → i ≡ n
+  unfolding firstBad
+  first-bad-here h e q = omega (arith, simp e at (rw (at-index h) at q))
+
+  pub first-bad-end : length l ≤ i → i + firstBad (drop i l) ≡ n → i ≡ n
+  unfolding firstBad
+  first-bad-end h q = omega (arith, simp (drop-of-length-le l h) at q)
+
+-- ---- each check, where it refuses and where it passes
+
+pub over-limit-refuses : (limit size : ℕ) → limit < size → overLimit limit size ≡ refuses 1 limit
+unfolding overLimit
+over-limit-refuses limit size h = simp (lt-ltb limit size h)
+
+pub over-limit-passes : (limit size : ℕ) → size ≤ limit → overLimit limit size ≡ passes
+unfolding overLimit
+over-limit-passes limit size h = simp (le-ltb limit size h)
+
+pub bad-code-point-refuses : (text : List ℕ) → firstBad text < length text → badCodePoint text ≡ refuses 2 (firstBad text)
+unfolding badCodePoint
+bad-code-point-refuses text h = simp (lt-ltb (firstBad text) (length text) h)
+
+pub bad-code-point-passes : (text : List ℕ) → length text ≤ firstBad text → badCodePoint text ≡ passes
+unfolding badCodePoint
+bad-code-point-passes text h = simp (le-ltb (firstBad text) (length text) h)
+
+-- of one code point alone
+pub code-bad : (c : ℕ) → bad c ≡ true → badCodePoint (c ∷ []) ≡ refuses 2 0
+unfolding badCodePoint firstBad
+code-bad c h = simp h
+
+pub code-good : (c : ℕ) → bad c ≡ false → badCodePoint (c ∷ []) ≡ passes
+unfolding badCodePoint firstBad
+code-good c h = simp h
+
+pub no-room-refuses : (room needed : ℕ) → room < needed → noRoom room needed ≡ refuses 3 needed
+unfolding noRoom
+no-room-refuses room needed h = simp (lt-ltb room needed h)
+
+pub no-room-passes : (room needed : ℕ) → needed ≤ room → noRoom room needed ≡ passes
+unfolding noRoom
+no-room-passes room needed h = simp (le-ltb room needed h)
+
+-- ---- lacking: n is what is found to be lacking
+
+module _ (room needed : ℕ) where
+  pub lacking-none : needed ≤ room → 0 ≡ lacking room needed
+  unfolding lacking
+  lacking-none h = simp (le-ltb room needed h)
+
+  pub lacking-all : room < needed → needed ≡ lacking room needed
+  unfolding lacking
+  lacking-all h = simp (lt-ltb room needed h)
+
+  -- n is the length needed, as the code counted it
+  pub lacking-counted : {n : ℕ} → n ≡ needed → room < n → n ≡ lacking room needed
+  lacking-counted e h = e ∙ lacking-all (omega arith)
+
+  -- back, where n was found to be lacking: it is nothing and there is room, or it is the length needed
+  module _ {n : ℕ} (found : n ≡ lacking room needed) where
+    pub lacking-room : n ≡ 0 → needed ≤ room
+    lacking-room h =
+        test (ltb room needed) (λ e. omega (arith, lacking-all (ltb-true room needed e), ltb-true room needed e)) (λ e. ltb-false room needed e)
+
+    pub lacking-size : (n ≡ 0 → ⊥) → n ≡ needed
+    lacking-size h =
+        test (ltb room needed) (λ e. found ∙ sym (lacking-all (ltb-true room needed e)))
+        (λ e. absurd (h (found ∙ sym (lacking-none (ltb-false room needed e)))))
+
+    pub lacking-less : (n ≡ 0 → ⊥) → room < n
+    lacking-less h =
+        test (ltb room needed) (λ e. omega (arith, lacking-size h, ltb-true room needed e))
+        (λ e. absurd (h (found ∙ sym (lacking-none (ltb-false room needed e)))))
+
+-- ---- a text: 1, then 2
+
+module _ (text : List ℕ) where
+  pub text-over : 16384 < length text → takesText text ≡ refuses 1 16384
+  text-over h = simp (over-limit-refuses 16384 (length text) h)
+
+  pub text-bad : length text ≤ 16384 → firstBad text < length text → takesText text ≡ refuses 2 (firstBad text)
+  text-bad h k = simp (over-limit-passes 16384 (length text) h, bad-code-point-refuses text k)
+
+  pub text-taken : length text ≤ 16384 → length text ≤ firstBad text → takesText text ≡ passes
+  text-taken h k = simp (over-limit-passes 16384 (length text) h, bad-code-point-passes text k)

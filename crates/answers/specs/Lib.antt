@@ -1,0 +1,3 @@
+pub mod Checks
+pub mod Verdicts
+pub mod Answers

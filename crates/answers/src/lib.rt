@@ -1,0 +1,99 @@
+// Refusals, answers, and the first bad code point of a text (document 01, 'Refusal numbers').
+// What every call has in common, and nothing of Hangul.
+ghost use mathlib.Core.Path.{_≡_};
+ghost use Rattle.answers.specs.Checks.{bad, firstBad};
+ghost use Rattle.answers.specs.Answers.{told};
+
+// The most code points or bytes that a call takes.
+pub const LIMIT: usize = 16384;
+
+// A case for each number of the table, 1 to 7, with its place where the place varies.
+pub enum Refusal {
+    // The input is over the limit, which is the place.
+    OverLimit(usize),
+    // The text has a bad code point, the first of them at this index.
+    BadCodePoint(usize),
+    // The answer is longer than the lent buffer, and this long.
+    NoRoom(usize),
+    // The code point asked to be named is no syllable.
+    NoSyllable,
+    // The bytes are no syllable's name.
+    NoName,
+    // The image is no whole number of records, or has not that one; the place is its length.
+    NoRecord(usize),
+    // A record breaks its layout, first at this byte of it, or a label cannot be stored.
+    BadLayout(usize),
+}
+
+// A refusal as the table's number and place.
+pub struct Told {
+    pub number: u32,
+    pub place: usize,
+}
+
+// The answer of a call that fills a lent buffer: how much of it, or why not.
+pub enum Filled {
+    Done(usize),
+    Refused(Refusal),
+}
+
+// The number and the place of a refusal: the one place of the code that tells its cases apart.
+pub fn tell(refusal: Refusal) -> Told
+    ensures { λ r. ⌜ r ≡ told refusal ⌝ }
+{
+    match refusal {
+        Refusal::OverLimit(limit) => Told {
+            number: 1,
+            place: limit,
+        },
+        Refusal::BadCodePoint(index) => Told {
+            number: 2,
+            place: index,
+        },
+        Refusal::NoRoom(needed) => Told {
+            number: 3,
+            place: needed,
+        },
+        Refusal::NoSyllable => Told {
+            number: 4,
+            place: 0,
+        },
+        Refusal::NoName => Told {
+            number: 5,
+            place: 0,
+        },
+        Refusal::NoRecord(length) => Told {
+            number: 6,
+            place: length,
+        },
+        Refusal::BadLayout(byte) => Told {
+            number: 7,
+            place: byte,
+        },
+    }
+}
+
+// Over 10FFFF, or a surrogate.
+pub fn is_bad(code: u32) -> bool
+    ensures { λ r. ⌜ r ≡ bad code ⌝ }
+{
+    match code {
+        0..=0xD7FF => false,
+        0xE000..=0x10FFFF => false,
+        _ => true,
+    }
+}
+
+// The index of the first bad code point, or the text's length where there is none.
+pub fn first_bad(text: &[u32]) -> usize
+    ensures { λ r. ⌜ r ≡ firstBad (now (text .entry)) ⌝ }
+{
+    let mut i = 0;
+    while i < text.len() {
+        if is_bad(text[i]) {
+            return i;
+        }
+        i += 1;
+    }
+    i
+}

@@ -1,0 +1,111 @@
+// calls: one door to every public call, for an independent program to drive (docs/CALLS.md). Reads
+// calls on standard input and writes answers on standard output; the work is the library's.
+mod codes;
+mod reply;
+mod wire;
+
+// What is read and written is at most this large.
+const HEAD: usize = 32;
+
+const ELEMENTS: usize = 20000;
+
+const ROOM: usize = 120000;
+
+// Reads just as many bytes as `bytes` has: false where the input ends before.
+fn read_whole(bytes: &mut [u8]) -> bool {
+    let wanted = bytes.len();
+    if wanted == 0 {
+        return true;
+    }
+    io::read_full(libc::STDIN_FILENO, bytes) == wanted
+}
+
+// Reads as many numbers as `numbers` has, by way of `bytes`: false where they are cut.
+fn read_numbers(bytes: &mut [u8], numbers: &mut [u32]) -> bool {
+    let count = numbers.len();
+    if bytes.len() / 4 < count {
+        return false;
+    }
+    let size = 4 * count;
+    if !read_whole(&mut bytes[..size]) {
+        return false;
+    }
+    wire::numbers(bytes, numbers);
+    true
+}
+
+// Writes the first `size` bytes.
+fn write_front(bytes: &[u8], size: usize) -> bool {
+    if bytes.len() < size {
+        return false;
+    }
+    io::write_all(libc::STDOUT_FILENO, &bytes[..size])
+}
+
+// Writes the answer and then the lent buffer as the call left it.
+fn write_answer(answer: reply::Reply, lent: &[u32], bytes: &mut [u8]) -> bool {
+    let count = lent.len() + 4;
+    if bytes.len() / 4 < count {
+        return false;
+    }
+    reply::put(answer, bytes);
+    wire::put_numbers(lent, bytes);
+    write_front(bytes, 4 * count)
+}
+
+// Reads the call's elements, calls, and answers; says whether to go on.
+fn answer_on(kind: u32, code: u32, text: &mut [u32], lent: &mut [u32], bytes: &mut [u8]) -> bool {
+    if !codes::is_kind(kind) {
+        return false;
+    }
+    if !read_numbers(bytes, text) {
+        return false;
+    }
+    wire::fill(lent);
+    let answer = codes::call(kind, code, text, lent);
+    write_answer(answer, lent, bytes)
+}
+
+// Answers the call whose head was read, and says whether to go on: no where it is too large, and
+// where it has elements of b, which none of these kinds takes.
+fn answer_call(head: &[u8], text: &mut [u32], lent: &mut [u32], bytes: &mut [u8]) -> bool {
+    let room = wire::number(head, 5) as usize;
+    let first = wire::number(head, 6) as usize;
+    if lent.len() < room {
+        return false;
+    }
+    if text.len() < first {
+        return false;
+    }
+    if wire::number(head, 7) != 0 {
+        return false;
+    }
+    let kind = wire::number(head, 0);
+    let code = wire::number(head, 1);
+    answer_on(kind, code, &mut text[..first], &mut lent[..room], bytes)
+}
+
+// Answers one call: false at the end of the input, and where a call is no good.
+fn one_call(head: &mut [u8], text: &mut [u32], lent: &mut [u32], bytes: &mut [u8]) -> bool {
+    if !read_whole(head) {
+        return false;
+    }
+    answer_call(head, text, lent, bytes)
+}
+
+// A proved loop has to end, and nothing says that the input does: it counts its turns down from a
+// number that no run uses up.
+fn all_calls(head: &mut [u8], text: &mut [u32], lent: &mut [u32], bytes: &mut [u8]) {
+    let mut turns = u64::MAX;
+    while turns > 0 && one_call(head, text, lent, bytes) {
+        turns -= 1;
+    }
+}
+
+fn main() {
+    let mut head = [0u8; HEAD];
+    let mut text = [0u32; ELEMENTS];
+    let mut lent = [0u32; ROOM];
+    let mut bytes = [0u8; 4 * ROOM + 16];
+    all_calls(&mut head, &mut text, &mut lent, &mut bytes);
+}

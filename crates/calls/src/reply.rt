@@ -1,0 +1,51 @@
+// The four numbers of an answer: the refusal (0 if done), the value, the second and the third.
+// Not here: the calls that are answered.
+use crate::wire;
+use answers::Filled;
+use answers::Refusal;
+
+pub struct Reply {
+    pub refusal: u32,
+    pub value: u32,
+    pub second: u32,
+    pub third: u32,
+}
+
+// A length or a place as a number of 32 bits: all that come here are below 2^32.
+fn short(n: usize) -> u32 {
+    (n % 0x1_0000_0000) as u32
+}
+
+pub fn done(value: u32, second: u32, third: u32) -> Reply {
+    Reply {
+        refusal: 0,
+        value,
+        second,
+        third,
+    }
+}
+
+pub fn refused(refusal: Refusal) -> Reply {
+    let told = answers::tell(refusal);
+    Reply {
+        refusal: told.number,
+        value: short(told.place),
+        second: 0,
+        third: 0,
+    }
+}
+
+pub fn filled(answer: Filled) -> Reply {
+    match answer {
+        Filled::Done(length) => done(short(length), 0, 0),
+        Filled::Refused(refusal) => refused(refusal),
+    }
+}
+
+// Writes the answer's numbers to the front.
+pub fn put(answer: Reply, bytes: &mut [u8]) {
+    wire::put_number(answer.refusal, 0, bytes);
+    wire::put_number(answer.value, 1, bytes);
+    wire::put_number(answer.second, 2, bytes);
+    wire::put_number(answer.third, 3, bytes);
+}

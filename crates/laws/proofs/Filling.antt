@@ -1,0 +1,132 @@
+-- Writing a list into a lent buffer, piece by piece. In order: a piece of what is left (`Piece`); pieces written one after the other (`Room`,
+-- `Wrote`); what a loop that fills the front keeps (`Filling`): of `whole` all but `rest` is written, k elements, and behind these the buffer
+-- is as it was; and what a loop that only counts keeps (`Counting`). Each law concludes what the next turn, or the return, asks.
+-- Not here: the definitions (specs/Writing). Assumes nothing.
+use mathlib.Core.Path.{_≡_, refl, sym, ap, _∙_}
+use mathlib.Core.List.{List, [], _∷_, _++_, append-assoc, append-nil}
+use Prim.Native.Nat.{ℕ, suc, _+_, _-_, _≤_, _<_}
+use native.Mathlib.Nat.{add-zero, add-suc, suc-add}
+use native.Mathlib.Numerals.{add-one}
+use native.Mathlib.Omega.{arith}
+use lib.ListN.{length, getD, drop, set, length-append, length-drop}
+use lib.Seq.{sets, length-sets, drop-cons, set-at}
+use Rattle.laws.specs.Writing.{front, Room, Wrote, Fronts}
+use Rattle.laws.specs.Lists.{each}
+use Rattle.laws.proofs.Lists.{each-next, each-end}
+
+-- ---- a piece
+
+-- what is left begins with xs, and then rest is left: a record, so that antt finds xs and rest by itself
+pub record Piece {A : Type 0} (left xs rest : List A) : Type 0 where
+  pub eq : left ≡ xs ++ rest
+
+pub each-piece : {A B : Type 0} (f : A → List B) (d : A) (l : List A) (i : ℕ) → i < length l
+    → Piece (each f (drop i l)) (f (getD l i d)) (each f (drop (i + 1) l))
+each-piece f d l i h = record { eq = each-next f d l i h }
+
+-- ---- Room and Wrote
+
+module _ {A : Type 0} where
+  pub sets-append : (l : List A) (at : ℕ) (xs ys : List A) → sets l at (xs ++ ys) ≡ sets (sets l at xs) (at + length xs) ys
+  sets-append l at [] ys = simp add-zero
+  sets-append l at (x ∷ xs) ys = sets-append (set l at x) (suc at) xs ys ∙ simp (suc-add, add-suc)
+
+  pub wrote-one : {all out : List A} {at : ℕ} {x : A} → all ≡ x ∷ [] → Wrote out at all (at + 1) (set out at x)
+  wrote-one e = rw e (record { behind = refl; holds = refl })
+
+  pub wrote-two : {all xs ys out out′ out″ : List A} {at k r : ℕ} → Piece all xs ys → Wrote out at xs k out′ → Wrote out′ k ys r out″
+      → Wrote out at all r out″
+  wrote-two {xs = xs} {ys = ys} p v w = rw (p .eq) (record {
+    behind = simp length-append (omega (arith, v .behind, w .behind));
+    holds = w .holds ∙ simp (v .behind, v .holds) (sym (sets-append _ _ xs ys));
+  })
+
+  pub wrote-length : {out xs out′ : List A} {at r : ℕ} → Wrote out at xs r out′ → length out′ ≡ length out
+  wrote-length w = ap length (w .holds) ∙ simp length-sets
+
+  pub room-one : {all out : List A} {at : ℕ} {x : A} → Room out at all → all ≡ x ∷ [] → at < length out
+  room-one h e = omega (arith, h .fits, ap length e)
+
+  pub room-first : {all xs ys out : List A} {at : ℕ} → Room out at all → Piece all xs ys → Room out at xs
+  room-first h p = record { fits = omega (arith, h .fits, simp length-append at (ap length (p .eq))) }
+
+  pub room-second : {all xs ys out out′ : List A} {at k : ℕ} → Room out at all → Piece all xs ys → Wrote out at xs k out′ → Room out′ k ys
+  room-second h p w =
+      record { fits = omega (arith, h .fits, simp length-append at (ap length (p .eq)), w .behind, simp length-sets at (ap length (w .holds))) }
+
+-- ---- Filling
+
+pub record Filling {A : Type 0} (whole rest out₀ out : List A) (k : ℕ) : Type 0 where
+  pub done : List A
+  pub size : length done ≡ k
+  pub all : done ++ rest ≡ whole
+  pub is : out ≡ front done out₀
+
+module _ {A : Type 0} where
+  pub filling-none : (whole out : List A) → Filling whole whole out out 0
+  filling-none whole out = record { done = []; size = refl; all = refl; is = refl }
+
+  -- k and what is still to be written are together as long as the whole
+  pub filling-count : {whole rest out₀ out : List A} {k : ℕ} → Filling whole rest out₀ out k → k + length rest ≡ length whole
+  filling-count f = omega (arith, f .size, simp length-append at (ap length (f .all)))
+
+  pub filling-length : {whole rest out₀ out : List A} {k : ℕ} → length whole ≤ length out₀ → Filling whole rest out₀ out k
+      → length out ≡ length out₀
+  filling-length {out₀ = out₀} {out = out} h f =
+      let n = filling-count f in
+      let m : length out ≡ length (f .done) + (length out₀ - length (f .done)) = ap length (f .is) ∙ simp (length-append, length-drop) in
+      omega (arith, f .size, m, n)
+
+  -- one element more, and several
+  filling-set : {whole rest out₀ out : List A} {k : ℕ} (x : A) → length whole ≤ length out₀ → Filling whole (x ∷ rest) out₀ out k
+      → Filling whole rest out₀ (set out k x) (suc k)
+  filling-set {rest = rest} {out₀ = out₀} {k = k} x h f =
+      let room : length (f .done) < length out₀ = omega (arith, f .size, filling-count f) in
+      record {
+        done = f .done ++ (x ∷ []);
+        size = simp length-append (simp (f .size, add-one));
+        all = simp append-assoc (f .all);
+        is =
+            ap (λ (l : List A). set l k x) (f .is ∙ ap (λ (l : List A). f .done ++ l) (drop-cons out₀ (length (f .done)) x room))
+            ∙ set-at (f .done) _ _ x k (f .size) ∙ sym (simp (append-assoc, length-append, add-one));
+      }
+
+  filling-sets : {whole rest out₀ out : List A} {k : ℕ} (xs : List A) → length whole ≤ length out₀ → Filling whole (xs ++ rest) out₀ out k
+      → Filling whole rest out₀ (sets out k xs) (k + length xs)
+  filling-sets [] h f = rw add-zero f
+  filling-sets {k = k} (x ∷ xs) h f = rw (add-suc, ← (suc-add k (length xs))) (filling-sets xs h (filling-set x h f))
+
+  -- the next piece has room
+  pub filling-room : {whole left xs rest out₀ out : List A} {k : ℕ} → length whole ≤ length out₀ → Filling whole left out₀ out k → Piece left xs rest
+      → Room out k xs
+  filling-room h f p = record { fits = omega (arith, filling-count f, filling-length h f, simp length-append at (ap length (p .eq))) }
+
+  -- and is written
+  pub filling-more : {whole left xs rest out₀ out out′ : List A} {k k′ : ℕ} → length whole ≤ length out₀ → Filling whole left out₀ out k
+      → Piece left xs rest → Wrote out k xs k′ out′ → Filling whole rest out₀ out′ k′
+  filling-more {xs = xs} h f p w = simp (w .behind, w .holds) (filling-sets xs h (rw (p .eq) at f))
+
+  -- nothing is left: the front is the whole
+  pub filling-all : {whole rest out₀ out : List A} {k : ℕ} → Filling whole rest out₀ out k → rest ≡ [] → Fronts whole out₀ k out
+  filling-all {out₀ = out₀} f e = record {
+    size = omega (arith, filling-count f, ap length e);
+    holds = f .is ∙ ap (λ (w : List A). front w out₀) (sym (append-nil (f .done)) ∙ ap (λ (r : List A). f .done ++ r) (sym e) ∙ f .all);
+  }
+
+-- ---- Counting: the same with no buffer, k elements counted
+
+pub record Counting {A : Type 0} (whole rest : List A) (k : ℕ) : Type 0 where
+  pub sum : k + length rest ≡ length whole
+
+module _ {A : Type 0} where
+  pub counting-none : (whole : List A) → Counting whole whole 0
+  counting-none whole = record { sum = omega arith }
+
+  pub counting-fits : {whole left xs rest : List A} {k n : ℕ} → Counting whole left k → Piece left xs rest → n ≡ length xs → k + n ≤ length whole
+  counting-fits f p e = omega (arith, f .sum, simp length-append at (ap length (p .eq)))
+
+  pub counting-more : {whole left xs rest : List A} {k n : ℕ} → Counting whole left k → Piece left xs rest → n ≡ length xs → Counting whole rest (k + n)
+  counting-more f p e = record { sum = omega (arith, f .sum, simp length-append at (ap length (p .eq))) }
+
+  pub counting-all : {whole rest : List A} {k : ℕ} → Counting whole rest k → rest ≡ [] → k ≡ length whole
+  counting-all f e = omega (arith, f .sum, ap length e)

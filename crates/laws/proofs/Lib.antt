@@ -1,0 +1,10 @@
+pub mod Bools
+pub mod Lists
+pub mod Ranges
+pub mod Tables
+pub mod Machines
+pub mod Pieces
+pub mod Seams
+pub mod Readings
+pub mod Damage
+pub mod Filling

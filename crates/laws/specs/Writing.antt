@@ -1,0 +1,25 @@
+-- What a function that writes a list into a lent buffer asks and leaves. A buffer is a list; what is written at an index takes the place of
+-- as many elements. Not here: the laws, and what a loop that writes piece by piece keeps (proofs/Filling). Assumes nothing.
+use mathlib.Core.Path.{_≡_}
+use mathlib.Core.List.{List, _++_}
+use Prim.Native.Nat.{ℕ, _+_, _≤_}
+use lib.ListN.{length, drop}
+use lib.Seq.{sets}
+
+-- `whole` fills the front, and the rest is as it was
+abbrev pub front : {A : Type 0} → List A → List A → List A
+front whole out = whole ++ drop (length whole) out
+
+-- out has room for xs from `at` on
+pub record Room {A : Type 0} (out : List A) (at : ℕ) (xs : List A) : Type 0 where
+  pub fits : at + length xs ≤ length out
+
+-- xs stands in the buffer from `at` on, the rest is as it was, and r is the index behind xs
+pub record Wrote {A : Type 0} (out : List A) (at : ℕ) (xs : List A) (r : ℕ) (out′ : List A) : Type 0 where
+  pub behind : r ≡ at + length xs
+  pub holds : out′ ≡ sets out at xs
+
+-- `whole` fills the front, the rest is as it was, and r is its length
+pub record Fronts {A : Type 0} (whole out : List A) (r : ℕ) (out′ : List A) : Type 0 where
+  pub size : r ≡ length whole
+  pub holds : out′ ≡ front whole out

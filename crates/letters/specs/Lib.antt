@@ -1,0 +1,4 @@
+pub mod Sorts
+pub mod Syllables
+pub mod Chapter3
+pub mod Answers

@@ -1,0 +1,101 @@
+// The table of the kinds of call: for each its number, frames, definition, cases and words.
+// It defines no answers itself; a new kind is a module of its own and one line in TABLE.
+
+use crate::cases;
+use crate::letters::Refusal;
+use crate::random::Random;
+use crate::wire::{Answer, Call, Shape, Width};
+
+pub struct Kind {
+    pub number: u32,
+    pub name: &'static str,
+    pub shape: Shape,
+    /// The answer that the rules give to a call.
+    pub answer: fn(&Call) -> Answer,
+    /// Fixed mean cases: boundaries, limits, the order of the checks. The meanest stand first,
+    /// since a comparison of few calls does not come to the end of them.
+    pub edges: fn() -> Vec<Call>,
+    /// One seeded case.
+    pub random: fn(&mut Random) -> Call,
+    /// The exhaustive cases; none where there is nothing to exhaust.
+    pub every: fn() -> Vec<Call>,
+    /// The few small cases that are stored as bytes. The first is a plain good call with elements
+    /// where the kind has any: the stops are made from it.
+    pub stored: fn() -> Vec<Call>,
+    /// Calls that break a bound which the kind's own row of the protocol names.
+    pub forbidden: fn() -> Vec<Call>,
+    /// The arguments in words.
+    pub arguments: fn(&Call) -> String,
+    /// The answer in words where it is no refusal.
+    pub outcome: fn(&Call, &Answer) -> String,
+}
+
+/// Each kind on a line of its own, in the order of their numbers.
+#[rustfmt::skip]
+pub const TABLE: &[&Kind] = &[
+    &cases::SORTER,
+    &cases::ONE_STEP,
+    &cases::FULL_PARTS,
+];
+
+/// The largest kind number that the protocol gives out; the next one is unknown.
+pub const LAST_KIND: u32 = 19;
+
+pub fn find(number: u32) -> Option<&'static Kind> {
+    TABLE.iter().copied().find(|kind| kind.number == number)
+}
+
+/// The kind of a call made here, which always stands in the table.
+pub fn kind_of(call: &Call) -> &'static Kind {
+    find(call.kind).expect("a call of a kind outside the table was made")
+}
+
+pub fn no_calls() -> Vec<Call> {
+    Vec::new()
+}
+
+/// The lent buffer as a call leaves it that writes nothing.
+fn untouched(call: &Call, width: Width) -> Vec<u32> {
+    vec![width.untouched(); call.room as usize]
+}
+
+/// A refusal: the place as value, nothing else, and no lent buffer written to.
+pub fn refused(call: &Call, width: Width, refusal: Refusal) -> Answer {
+    let lent = untouched(call, width);
+    Answer {
+        refusal: refusal.number,
+        value: refusal.place,
+        second: 0,
+        third: 0,
+        lent,
+    }
+}
+
+/// An answer by value alone.
+pub fn by_value(call: &Call, width: Width, value: u32, second: u32, third: u32) -> Answer {
+    Answer {
+        refusal: 0,
+        value,
+        second,
+        third,
+        lent: untouched(call, width),
+    }
+}
+
+/// An answer in the lent buffer: it fills the front and the rest is unchanged.
+pub fn in_buffer(call: &Call, width: Width, outcome: Result<Vec<u32>, Refusal>) -> Answer {
+    match outcome {
+        Err(refusal) => refused(call, width, refusal),
+        Ok(front) => {
+            let mut lent = untouched(call, width);
+            lent[..front.len()].copy_from_slice(&front);
+            Answer {
+                refusal: 0,
+                value: front.len() as u32,
+                second: 0,
+                third: 0,
+                lent,
+            }
+        }
+    }
+}

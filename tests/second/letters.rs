@@ -1,0 +1,183 @@
+// The definitions of sorts, one step, full parts and refusals 1, 2 and 3, as the rules state them.
+// It makes no cases and knows no frames; it aims at plainness, not at speed.
+
+/// The constants of the Unicode Standard, chapter 3, conjoining jamo behaviour.
+pub const S_BASE: u32 = 0xAC00;
+pub const L_BASE: u32 = 0x1100;
+pub const V_BASE: u32 = 0x1161;
+pub const T_BASE: u32 = 0x11A7;
+pub const L_COUNT: u32 = 19;
+pub const V_COUNT: u32 = 21;
+pub const T_COUNT: u32 = 28;
+pub const N_COUNT: u32 = V_COUNT * T_COUNT;
+pub const S_COUNT: u32 = L_COUNT * N_COUNT;
+
+/// The largest number of code points that a call takes.
+pub const LIMIT: usize = 16_384;
+
+/// The sorts in the order of their numbers on the wire.
+#[derive(Clone, Copy, Debug, PartialEq, Eq)]
+pub enum Sort {
+    ModernInitial,
+    OldInitial,
+    InitialFiller,
+    PeakFiller,
+    ModernPeak,
+    OldPeak,
+    ModernFinal,
+    OldFinal,
+    Lv,
+    Lvt,
+    Other,
+}
+
+pub const SORTS: [(Sort, &str); 11] = [
+    (Sort::ModernInitial, "modern initial"),
+    (Sort::OldInitial, "old initial"),
+    (Sort::InitialFiller, "initial filler"),
+    (Sort::PeakFiller, "peak filler"),
+    (Sort::ModernPeak, "modern peak"),
+    (Sort::OldPeak, "old peak"),
+    (Sort::ModernFinal, "modern final"),
+    (Sort::OldFinal, "old final"),
+    (Sort::Lv, "LV"),
+    (Sort::Lvt, "LVT"),
+    (Sort::Other, "other"),
+];
+
+/// The ranges of letters. Gaps between them, 11A7 among them, are other.
+pub const LETTER_RANGES: [(u32, u32, Sort); 8] = [
+    (0x1100, 0x1112, Sort::ModernInitial),
+    (0x1113, 0x1159, Sort::OldInitial),
+    (0x115F, 0x115F, Sort::InitialFiller),
+    (0x1160, 0x1160, Sort::PeakFiller),
+    (0x1161, 0x1175, Sort::ModernPeak),
+    (0x1176, 0x11A2, Sort::OldPeak),
+    (0x11A8, 0x11C2, Sort::ModernFinal),
+    (0x11C3, 0x11F9, Sort::OldFinal),
+];
+
+pub fn sort_of(code: u32) -> Sort {
+    for (first, last, sort) in LETTER_RANGES {
+        if first <= code && code <= last {
+            return sort;
+        }
+    }
+    if !is_syllable(code) {
+        return Sort::Other;
+    }
+    if (code - S_BASE) % T_COUNT == 0 {
+        Sort::Lv
+    } else {
+        Sort::Lvt
+    }
+}
+
+pub fn is_syllable(code: u32) -> bool {
+    (0xAC00..=0xD7A3).contains(&code)
+}
+
+/// One step: the Standard's arithmetic decomposition mapping; any other code point is itself.
+pub fn one_step(code: u32) -> Vec<u32> {
+    match sort_of(code) {
+        Sort::Lv => {
+            let s_index = code - S_BASE;
+            let l_index = s_index / N_COUNT;
+            let v_index = (s_index % N_COUNT) / T_COUNT;
+            vec![L_BASE + l_index, V_BASE + v_index]
+        }
+        Sort::Lvt => {
+            let s_index = code - S_BASE;
+            let lv_index = (s_index / T_COUNT) * T_COUNT;
+            let t_index = s_index % T_COUNT;
+            vec![S_BASE + lv_index, T_BASE + t_index]
+        }
+        _ => vec![code],
+    }
+}
+
+/// Full parts of one code point: the Standard's full canonical mapping, not the repeated step.
+/// That both are the same is one of the facts, so a slip in either shows.
+pub fn full_parts(code: u32) -> Vec<u32> {
+    if !is_syllable(code) {
+        return vec![code];
+    }
+    let s_index = code - S_BASE;
+    let l_index = s_index / N_COUNT;
+    let v_index = (s_index % N_COUNT) / T_COUNT;
+    let t_index = s_index % T_COUNT;
+    let mut parts = vec![L_BASE + l_index, V_BASE + v_index];
+    if t_index > 0 {
+        parts.push(T_BASE + t_index);
+    }
+    parts
+}
+
+pub fn full_parts_of_text(text: &[u32]) -> Vec<u32> {
+    text.iter().flat_map(|&code| full_parts(code)).collect()
+}
+
+/// A refusal's number and the place returned with it.
+#[derive(Clone, Copy, Debug, PartialEq, Eq)]
+pub struct Refusal {
+    pub number: u32,
+    pub place: u32,
+}
+
+/// Refusal 1: over the limit; the place is the limit, however much longer the text is.
+pub fn check_length(count: usize) -> Result<(), Refusal> {
+    if count > LIMIT {
+        return Err(Refusal {
+            number: 1,
+            place: LIMIT as u32,
+        });
+    }
+    Ok(())
+}
+
+/// No Unicode scalar value: a surrogate, or a number beyond the last code point.
+pub fn is_bad(code: u32) -> bool {
+    code > 0x10FFFF || (0xD800..=0xDFFF).contains(&code)
+}
+
+/// Refusal 2: a bad code point; the place is the index of the first.
+pub fn check_codes(text: &[u32]) -> Result<(), Refusal> {
+    match text.iter().position(|&code| is_bad(code)) {
+        Some(index) => Err(Refusal {
+            number: 2,
+            place: index as u32,
+        }),
+        None => Ok(()),
+    }
+}
+
+/// Refusal 3: the answer is longer than the lent buffer; the place is the length needed.
+pub fn check_room(needed: usize, room: u32) -> Result<(), Refusal> {
+    if needed > room as usize {
+        return Err(Refusal {
+            number: 3,
+            place: needed as u32,
+        });
+    }
+    Ok(())
+}
+
+/// The sorter takes one code point, so a bad one stands at place 0.
+pub fn answer_of_sorter(code: u32) -> Result<Sort, Refusal> {
+    check_codes(&[code])?;
+    Ok(sort_of(code))
+}
+
+pub fn answer_of_one_step(code: u32) -> Result<Vec<u32>, Refusal> {
+    check_codes(&[code])?;
+    Ok(one_step(code))
+}
+
+/// The checks go 1, 2, 3; each is made only where those before it passed.
+pub fn answer_of_full_parts(text: &[u32], room: u32) -> Result<Vec<u32>, Refusal> {
+    check_length(text.len())?;
+    check_codes(text)?;
+    let parts = full_parts_of_text(text);
+    check_room(parts.len(), room)?;
+    Ok(parts)
+}

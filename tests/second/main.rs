@@ -1,0 +1,151 @@
+// The second program: checks a proved Hangul library from outside, by definitions of its own.
+// It shares no code with the library and reads only what the program `calls` writes.
+
+mod cases;
+mod compare;
+mod facts;
+mod kinds;
+mod letters;
+mod random;
+mod run;
+mod stops;
+mod store;
+mod texts;
+mod wire;
+mod words;
+
+use run::Program;
+use std::process::ExitCode;
+
+const USAGE: &str = "usage:
+  second compare PROGRAM [--seed S] [--calls N] [--under EMULATOR]
+  second all PROGRAM [--under EMULATOR]
+  second stops PROGRAM [--under EMULATOR]
+  second store FOLDER
+  second show FILE_OF_CALLS FILE_OF_ANSWERS
+  second self";
+
+/// What was asked for behind the first words of a command line.
+struct Options {
+    seed: u64,
+    calls: usize,
+    emulator: Option<String>,
+}
+
+impl Options {
+    fn program(&self, path: &str) -> Program {
+        Program::new(path, self.emulator.as_deref())
+    }
+}
+
+fn number<Number: std::str::FromStr>(word: &str) -> Result<Number, String> {
+    word.parse().map_err(|_| format!("{word} is no number"))
+}
+
+/// Options come in pairs of a name and a word; only those that the command knows are taken.
+fn options(words: &[String], known: &[&str]) -> Result<Options, String> {
+    let mut options = Options {
+        seed: 1,
+        calls: 20_000,
+        emulator: None,
+    };
+    for pair in words.chunks(2) {
+        let (name, word) = match pair {
+            [name, word] => (name, word),
+            _ => return Err(format!("{} stands without its word", pair[0])),
+        };
+        match name.as_str() {
+            name if !known.contains(&name) => return Err(format!("{name} is not known here")),
+            "--seed" => options.seed = number(word)?,
+            "--calls" => options.calls = number(word)?,
+            _ => options.emulator = Some(word.clone()),
+        }
+    }
+    Ok(options)
+}
+
+/// Reports go out as they are; the exit code says that there were some.
+fn verdict(outcome: Result<String, Vec<String>>) -> ExitCode {
+    match outcome {
+        Ok(line) => {
+            println!("{line}");
+            ExitCode::SUCCESS
+        }
+        Err(reports) => {
+            for report in reports {
+                println!("{report}");
+            }
+            ExitCode::from(1)
+        }
+    }
+}
+
+fn compare(path: &str, words: &[String]) -> Result<ExitCode, String> {
+    let options = options(words, &["--seed", "--calls", "--under"])?;
+    let reports = compare::seeded(&options.program(path), options.seed, options.calls);
+    if !reports.is_empty() {
+        return Ok(verdict(Err(reports)));
+    }
+    Ok(verdict(Ok(format!(
+        "{} calls agree (seed {})",
+        options.calls, options.seed
+    ))))
+}
+
+fn exhaustive(path: &str, words: &[String]) -> Result<ExitCode, String> {
+    let program = options(words, &["--under"])?.program(path);
+    let outcome = compare::exhaustive(&program);
+    Ok(verdict(
+        outcome.map(|count| format!("{count} calls agree (exhaustive)")),
+    ))
+}
+
+fn stops(path: &str, words: &[String]) -> Result<ExitCode, String> {
+    let program = options(words, &["--under"])?.program(path);
+    let outcome = stops::try_all(&program);
+    Ok(verdict(outcome.map(|count| format!("{count} stops agree"))))
+}
+
+fn show(calls: &str, answers: &str) -> Result<ExitCode, String> {
+    let outcome = store::show(calls, answers);
+    Ok(outcome.map_or_else(
+        |trouble| verdict(Err(vec![trouble])),
+        |()| ExitCode::SUCCESS,
+    ))
+}
+
+fn own_facts() -> ExitCode {
+    let facts = facts::all();
+    if facts.broken.is_empty() {
+        return verdict(Ok(format!("{} facts hold", facts.held)));
+    }
+    let broken = facts
+        .broken
+        .into_iter()
+        .map(|fact| format!("broken: {fact}"));
+    verdict(Err(broken.collect()))
+}
+
+fn command(words: &[String]) -> Result<ExitCode, String> {
+    let plain: Vec<&str> = words.iter().map(String::as_str).collect();
+    match plain[..] {
+        ["compare", path, ..] => compare(path, &words[2..]),
+        ["all", path, ..] => exhaustive(path, &words[2..]),
+        ["stops", path, ..] => stops(path, &words[2..]),
+        ["store", folder] => Ok(verdict(Ok(store::store(folder)?))),
+        ["show", calls, answers] => show(calls, answers),
+        ["self"] => Ok(own_facts()),
+        _ => Err(USAGE.to_string()),
+    }
+}
+
+fn main() -> ExitCode {
+    let words: Vec<String> = std::env::args().skip(1).collect();
+    match command(&words) {
+        Ok(code) => code,
+        Err(trouble) => {
+            eprintln!("{trouble}");
+            ExitCode::from(2)
+        }
+    }
+}

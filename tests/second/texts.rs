@@ -1,0 +1,298 @@
+// Mean code points, texts and rooms, from which the cases of every kind that takes text are made.
+// It makes no whole calls and decides no answers.
+
+use crate::letters::{is_bad, LIMIT};
+use crate::random::Random;
+use crate::wire::{MOST_ELEMENTS, MOST_ROOM};
+
+/// First and last code of each range in the rules, and of the blocks that look like them:
+/// tone marks, compatibility letters, the later old letters and the half-width letters.
+const RANGE_ENDS: [u32; 44] = [
+    0x0000, 0x0030, 0x0039, 0x0041, 0x007F, 0x0080, 0x07FF, 0x0800, 0x1100, 0x1112, 0x1113, 0x1159,
+    0x115A, 0x115E, 0x115F, 0x1160, 0x1161, 0x1175, 0x1176, 0x11A2, 0x11A3, 0x11A7, 0x11A8, 0x11C2,
+    0x11C3, 0x11F9, 0x11FA, 0x11FF, 0x302E, 0x302F, 0x3131, 0x314E, 0x314F, 0x3163, 0x3164, 0xA960,
+    0xA97C, 0xAC00, 0xD7A3, 0xD7B0, 0xD7FB, 0xFFA0, 0xFFFD, 0xFFFF,
+];
+
+/// Where the scalar values begin and end, and numbers with the top bits set.
+const NUMBER_ENDS: [u32; 10] = [
+    0xD7FF,
+    0xD800,
+    0xDBFF,
+    0xDC00,
+    0xDFFF,
+    0xE000,
+    0x10000,
+    0x10FFFF,
+    0x7FFF_FFFF,
+    0xFFFF_FFFE,
+];
+
+/// Added to a range end, these give numbers that are it again when cut to 8, 16, 20 or 31 bits.
+const LOOK_ALIKES: [u32; 6] = [
+    0x100,
+    0x1_0000,
+    0x10_0000,
+    0x11_0000,
+    0x8000_0000,
+    0xFFFF_0000,
+];
+
+/// Ranges from which the good code points of texts are drawn; Hangul stands in most of them.
+const GOOD_RANGES: [(u32, u32); 16] = [
+    (0x1100, 0x1112),
+    (0x1113, 0x1159),
+    (0x115A, 0x1160),
+    (0x1161, 0x1175),
+    (0x1176, 0x11A2),
+    (0x11A3, 0x11A7),
+    (0x11A8, 0x11C2),
+    (0x11C3, 0x11F9),
+    (0x11FA, 0x11FF),
+    (0xAC00, 0xD7A3),
+    (0x0020, 0x007E),
+    (0x3131, 0x3164),
+    (0x302E, 0x302F),
+    (0xA960, 0xA97F),
+    (0xE000, 0xFFFF),
+    (0x10000, 0x10FFFF),
+];
+
+/// Each boundary with the two codes on either side, bad ones included, in rising order.
+pub fn boundary_codes() -> Vec<u32> {
+    let mut codes = Vec::new();
+    for end in RANGE_ENDS.into_iter().chain(NUMBER_ENDS) {
+        for distance in 0..=2 {
+            codes.push(end.saturating_add(distance));
+            codes.push(end.saturating_sub(distance));
+        }
+    }
+    codes.extend(syllable_boundaries());
+    codes.sort_unstable();
+    codes.dedup();
+    codes
+}
+
+/// Around the first rows of 28 and of 588, where a wrong divisor shows.
+fn syllable_boundaries() -> Vec<u32> {
+    let mut codes = Vec::new();
+    for row in [28, 588, 588 * 2, 588 * 18, 588 * 18 + 28 * 20] {
+        for code in [0xAC00 + row - 1, 0xAC00 + row, 0xAC00 + row + 1] {
+            codes.push(code);
+        }
+    }
+    codes
+}
+
+/// Every LV, with the syllable before it and behind it.
+pub fn row_neighbours() -> Vec<u32> {
+    let rows = (0xAC00..=0xD7A3).step_by(28);
+    rows.flat_map(|code| [code - 1, code, code + 1]).collect()
+}
+
+/// Numbers that become a boundary when bits are lost; some are good and some bad.
+pub fn look_alike_codes() -> Vec<u32> {
+    let mut codes = Vec::new();
+    for end in RANGE_ENDS {
+        for distance in LOOK_ALIKES {
+            codes.push(end.wrapping_add(distance));
+        }
+        codes.push(end.swap_bytes());
+    }
+    codes
+}
+
+/// Bad numbers for the exhaustive run: the named ones and seeded ones above 10FFFF.
+pub fn numbers_beyond() -> Vec<u32> {
+    let mut codes = vec![0x11_0000, 0x11_0001, 0x7FFF_FFFF, 0x8000_0000, 0xFFFF_FFFF];
+    codes.extend(
+        look_alike_codes()
+            .into_iter()
+            .filter(|&code| code > 0x10_FFFF),
+    );
+    let mut random = Random::new(0x110000);
+    for _ in 0..400 {
+        codes.push(random.between(0x11_0000, 0xFFFF_FFFF));
+        codes.push(random.between(0x11_0000, 0x20_0000));
+    }
+    codes
+}
+
+pub fn good_code(random: &mut Random) -> u32 {
+    let (first, last) = random.pick(&GOOD_RANGES);
+    random.between(first, last)
+}
+
+pub fn bad_code(random: &mut Random) -> u32 {
+    match random.below(4) {
+        0 => random.pick(&[
+            0xD800,
+            0xDBFF,
+            0xDC00,
+            0xDFFF,
+            0x11_0000,
+            0x8000_AC00,
+            0xFFFF_FFFF,
+        ]),
+        1 => random.between(0xD800, 0xDFFF),
+        2 => random.between(0x11_0000, 0x12_0000),
+        _ => random.between(0x11_0000, 0xFFFF_FFFF),
+    }
+}
+
+/// Any number, good or bad, with the boundaries often.
+pub fn any_code(random: &mut Random) -> u32 {
+    match random.below(8) {
+        0 => random
+            .pick(&RANGE_ENDS)
+            .wrapping_add(random.between(0, 4))
+            .wrapping_sub(2),
+        1 => random
+            .pick(&NUMBER_ENDS)
+            .wrapping_add(random.between(0, 4))
+            .wrapping_sub(2),
+        2 => bad_code(random),
+        3 => random.between(0xAC00, 0xD7A3),
+        4 => random.between(0x1100, 0x11FF),
+        5 => random.between(0, 0x10_FFFF),
+        _ => good_code(random),
+    }
+}
+
+fn good_boundary(random: &mut Random) -> u32 {
+    loop {
+        let code = random
+            .pick(&RANGE_ENDS)
+            .saturating_add(random.between(0, 4))
+            .saturating_sub(2);
+        if !is_bad(code) {
+            return code;
+        }
+    }
+}
+
+fn letter(random: &mut Random) -> u32 {
+    random.between(0x1100, 0x11FF)
+}
+
+fn syllable(random: &mut Random) -> u32 {
+    random.between(0xAC00, 0xD7A3)
+}
+
+/// One code of a modern letter, initial, peak and final in turn, as spelled text has them.
+fn spelled(random: &mut Random, index: usize) -> u32 {
+    match index % 3 {
+        0 => random.between(0x1100, 0x1112),
+        1 => random.between(0x1161, 0x1175),
+        _ => random.between(0x11A7, 0x11C3),
+    }
+}
+
+/// A good text of the given length, of one of several styles.
+pub fn good_text(random: &mut Random, length: usize) -> Vec<u32> {
+    let style = random.below(8);
+    let mut text = Vec::with_capacity(length);
+    for index in 0..length {
+        let either = random.one_in(2);
+        text.push(match style {
+            0 => syllable(random),
+            1 => letter(random),
+            2 if either => letter(random),
+            2 => syllable(random),
+            3 if either => random.between(0x20, 0x7E),
+            3 => syllable(random),
+            4 => spelled(random, index),
+            5 => good_boundary(random),
+            6 => random.pick(&[
+                0xAC00, 0xAC01, 0xD788, 0xD7A3, 0x1100, 0x1161, 0x11A8, 0x11A7,
+            ]),
+            _ => good_code(random),
+        });
+    }
+    text
+}
+
+/// Where bad code points are put into a good text.
+#[derive(Clone, Copy, Debug)]
+pub enum Spoiling {
+    First,
+    Last,
+    Middle,
+    Several,
+    All,
+    BehindLimit,
+}
+
+pub const SPOILINGS: [Spoiling; 6] = [
+    Spoiling::First,
+    Spoiling::Last,
+    Spoiling::Middle,
+    Spoiling::Several,
+    Spoiling::All,
+    Spoiling::BehindLimit,
+];
+
+/// Puts bad code points in. An empty text stays, and BehindLimit changes only longer texts.
+pub fn spoil(random: &mut Random, text: &mut [u32], spoiling: Spoiling) {
+    let length = text.len();
+    if length == 0 {
+        return;
+    }
+    let places = match spoiling {
+        Spoiling::First => vec![0],
+        Spoiling::Last => vec![length - 1],
+        Spoiling::Middle => vec![random.below(length)],
+        Spoiling::Several => (0..4).map(|_| random.below(length)).collect(),
+        Spoiling::All => (0..length).collect(),
+        Spoiling::BehindLimit => (LIMIT..length).take(1).collect(),
+    };
+    for place in places {
+        text[place] = bad_code(random);
+    }
+}
+
+/// Most texts are short, since each length up to a few dozen shows the same errors faster.
+pub fn length(random: &mut Random) -> usize {
+    if random.one_in(600) {
+        return random.pick(&[LIMIT - 1, LIMIT, LIMIT + 1, MOST_ELEMENTS as usize, 9_999]);
+    }
+    match random.below(20) {
+        0 => random.below(400),
+        1..=3 => random.below(64),
+        4..=7 => random.below(3),
+        _ => random.below(13),
+    }
+}
+
+/// A text, in one of six spoilt.
+pub fn text(random: &mut Random) -> Vec<u32> {
+    let count = length(random);
+    let mut text = good_text(random, count);
+    if random.one_in(6) {
+        let spoiling = random.pick(&SPOILINGS);
+        spoil(random, &mut text, spoiling);
+    }
+    text
+}
+
+/// A room for an answer of the given length that cannot be longer than most.
+pub fn room(random: &mut Random, needed: usize, most: usize) -> u32 {
+    if random.one_in(500) {
+        return MOST_ROOM;
+    }
+    let room = match random.below(9) {
+        0 => 0,
+        1 | 2 => needed,
+        3 => needed.saturating_sub(1),
+        4 => needed + 1,
+        5 => most,
+        6 => random.below(needed + 1),
+        _ => needed + random.below(9),
+    };
+    bounded_room(room)
+}
+
+/// Rooms over the protocol's bound would end the program, so they are cut to it.
+pub fn bounded_room(room: usize) -> u32 {
+    room.min(MOST_ROOM as usize) as u32
+}

@@ -1,0 +1,138 @@
+// Calls and answers in words that a reader can follow, long lists shortened.
+// It compares nothing; that two answers read the same does not make them equal.
+
+use crate::kinds::Kind;
+use crate::wire::{Answer, Call, Width};
+
+/// Longer lists are shown by their first and last elements.
+const MOST_SHOWN: usize = 12;
+
+/// A code point in the Standard's way: capital hex of at least four digits.
+pub fn code(code: u32) -> String {
+    format!("{code:04X}")
+}
+
+fn element(element: u32, width: Width) -> String {
+    match width {
+        Width::Byte => format!("{element:02X}"),
+        Width::Number => code(element),
+    }
+}
+
+pub fn list(elements: &[u32], width: Width) -> String {
+    let word = |&number: &u32| element(number, width);
+    if elements.len() <= MOST_SHOWN {
+        return elements.iter().map(word).collect::<Vec<String>>().join(" ");
+    }
+    let front: Vec<String> = elements[..8].iter().map(word).collect();
+    let back: Vec<String> = elements[elements.len() - 2..].iter().map(word).collect();
+    format!(
+        "{} .. {} ({} in all)",
+        front.join(" "),
+        back.join(" "),
+        elements.len()
+    )
+}
+
+/// The argument of a kind that takes one code point.
+pub fn code_argument(call: &Call) -> String {
+    code(call.x)
+}
+
+/// The arguments of a kind that takes a text of code points and a lent buffer.
+pub fn text_argument(call: &Call) -> String {
+    if call.a.is_empty() {
+        return format!("no text room {}", call.room);
+    }
+    format!("{} room {}", list(&call.a, Width::Number), call.room)
+}
+
+/// The answer of a kind that fills the lent buffer with code points.
+pub fn codes_in_buffer(_call: &Call, answer: &Answer) -> String {
+    in_buffer(answer, Width::Number) + &unexpected_values(answer.second, answer.third)
+}
+
+/// The length, the front of the buffer, and how many elements behind it were left as they were.
+pub fn in_buffer(answer: &Answer, width: Width) -> String {
+    let length = (answer.value as usize).min(answer.lent.len());
+    let (front, behind) = answer.lent.split_at(length);
+    let colon = if front.is_empty() { "" } else { ": " };
+    let written = behind
+        .iter()
+        .filter(|&&number| number != width.untouched())
+        .count();
+    let change = match written {
+        0 => String::new(),
+        count => format!(", of them {count} CHANGED: {}", list(behind, width)),
+    };
+    let front = list(front, width);
+    format!(
+        "{}{colon}{front} ({} left{change})",
+        answer.value,
+        behind.len()
+    )
+}
+
+/// Says where an answer has a value of which its kind says nothing.
+pub fn unexpected_values(second: u32, third: u32) -> String {
+    if second == 0 && third == 0 {
+        return String::new();
+    }
+    format!(", second {second:X}, third {third:X}")
+}
+
+fn refusal(answer: &Answer, width: Width) -> String {
+    let changed = answer
+        .lent
+        .iter()
+        .any(|&number| number != width.untouched());
+    let buffer = match changed {
+        true => format!(", buffer CHANGED: {}", list(&answer.lent, width)),
+        false => String::new(),
+    };
+    let values = unexpected_values(answer.second, answer.third);
+    format!(
+        "refused {} at {}{values}{buffer}",
+        answer.refusal, answer.value
+    )
+}
+
+pub fn call_in_words(kind: &Kind, call: &Call) -> String {
+    format!("{} of {}", kind.name, (kind.arguments)(call))
+}
+
+pub fn answer_in_words(kind: &Kind, call: &Call, answer: &Answer) -> String {
+    if answer.refusal == 0 {
+        return (kind.outcome)(call, answer);
+    }
+    // An image is no lent buffer: what stands in it is the caller's own.
+    if kind.shape.returns_image {
+        return format!("refused {} at {}", answer.refusal, answer.value);
+    }
+    refusal(answer, kind.shape.lent)
+}
+
+/// Where two answers part, exactly; the words above may be too short to show it.
+pub fn first_difference(expected: &Answer, got: &Answer) -> String {
+    let numbers = [
+        ("refusal", expected.refusal, got.refusal),
+        ("value", expected.value, got.value),
+        ("second", expected.second, got.second),
+        ("third", expected.third, got.third),
+    ];
+    for (name, expected, got) in numbers {
+        if expected != got {
+            return format!("{name} {expected:X} expected, {got:X} got");
+        }
+    }
+    let pairs = expected.lent.iter().zip(&got.lent);
+    match pairs
+        .enumerate()
+        .find(|(_, (expected, got))| expected != got)
+    {
+        Some((index, (expected, got))) => {
+            format!("element {index} of the buffer {expected:04X} expected, {got:04X} got")
+        }
+        None => "no difference".to_string(),
+    }
+}
