@@ -1,13 +1,12 @@
 // The kinds sorter, one step and full parts: what cases are made for each, and their words.
 // It defines no answers: those stand with the letters.
 
-use crate::kinds::{by_value, in_buffer, no_calls, refused, Kind};
-use crate::letters::{
-    answer_of_full_parts, answer_of_one_step, answer_of_sorter, full_parts_of_text, LIMIT, SORTS,
-};
+use crate::kinds::{by_value, no_calls, refused, with_unused_numbers, Kind};
+use crate::letters::{answer_of_one_step, answer_of_sorter, full_parts_of_text, LIMIT, SORTS};
 use crate::random::Random;
+use crate::text_kinds::TextKind;
 use crate::texts;
-use crate::wire::{Answer, Call, Shape, Width, MOST_ELEMENTS, MOST_ROOM};
+use crate::wire::{Answer, Call, Shape, Width};
 use crate::words;
 
 pub const SORTER: Kind = Kind {
@@ -39,17 +38,25 @@ pub const ONE_STEP: Kind = Kind {
 };
 
 pub const FULL_PARTS: Kind = Kind {
-    number: 3,
+    number: PARTS.number,
     name: "full parts",
     shape: Shape::CODES,
-    answer: full_parts_answer,
+    answer: |call| PARTS.answer(call),
     edges: full_parts_edges,
-    random: full_parts_random,
+    random: |random| PARTS.random_call(random),
     every: full_parts_every,
     stored: full_parts_stored,
     forbidden: no_calls,
     arguments: words::text_argument,
     outcome: words::codes_in_buffer,
+};
+
+pub const PARTS: TextKind = TextKind {
+    number: 3,
+    whole: full_parts_of_text,
+    growth: 3,
+    good_text: texts::good_text,
+    repeated: &[&[0xD7A3], &[0xAC00], &[0x41]],
 };
 
 const STORED_FOR_SORTER: [u32; 28] = [
@@ -95,14 +102,6 @@ fn one_step_answer(call: &Call) -> Answer {
             by_value(call, Width::Number, parts.len() as u32, parts[0], third)
         }
     }
-}
-
-fn full_parts_answer(call: &Call) -> Answer {
-    in_buffer(
-        call,
-        Width::Number,
-        answer_of_full_parts(&call.a, call.room),
-    )
 }
 
 fn sorter_outcome(_call: &Call, answer: &Answer) -> String {
@@ -158,123 +157,17 @@ fn code_call(kind: u32, random: &mut Random) -> Call {
     with_unused_numbers(call, random)
 }
 
-/// Fills numbers that the kind does not take, so that a program which looks at them is caught.
-fn with_unused_numbers(mut call: Call, random: &mut Random) -> Call {
-    if random.one_in(4) {
-        call.y = texts::any_code(random);
-        call.z = random.number();
-        call.w = random.between(0, 3);
-        if call.kind == FULL_PARTS.number {
-            call.x = texts::any_code(random);
-        }
-    }
-    call
-}
-
-fn text_call(text: Vec<u32>, room: u32) -> Call {
-    Call {
-        kind: FULL_PARTS.number,
-        room,
-        a: text,
-        ..Call::default()
-    }
-}
-
-fn full_parts_random(random: &mut Random) -> Call {
-    let text = texts::text(random);
-    // Of a spoilt or overlong text too: the room is mean only beside the length it would need.
-    let needed = full_parts_of_text(&text).len();
-    let room = texts::room(random, needed, 3 * text.len());
-    with_unused_numbers(text_call(text, room), random)
-}
-
-/// The rooms around the length that a text needs.
-fn rooms_around(text: &[u32]) -> Vec<u32> {
-    let needed = full_parts_of_text(text).len();
-    let rooms = [
-        0,
-        needed.saturating_sub(1),
-        needed,
-        needed + 1,
-        3 * text.len(),
-    ];
-    let mut rooms: Vec<u32> = rooms.into_iter().map(texts::bounded_room).collect();
-    rooms.sort_unstable();
-    rooms.dedup();
-    rooms
-}
-
-fn in_rooms_around(text: &[u32]) -> Vec<Call> {
-    rooms_around(text)
-        .into_iter()
-        .map(|room| text_call(text.to_vec(), room))
-        .collect()
-}
-
 fn full_parts_edges() -> Vec<Call> {
-    let mut calls = Vec::new();
-    for room in 0..4 {
-        calls.push(text_call(Vec::new(), room));
-    }
-    calls.push(text_call(Vec::new(), MOST_ROOM));
-    calls.extend(long_spoilt());
-    calls.extend(long_good());
-    calls.extend(in_rooms_around(&texts::row_neighbours()));
-    calls.extend(short_spoilt());
+    let mut calls = PARTS.no_text();
+    calls.extend(PARTS.long_spoilt());
+    calls.extend(PARTS.long_good());
+    calls.extend(PARTS.in_rooms_around(&texts::row_neighbours()));
+    calls.extend(PARTS.short_spoilt());
     for code in texts::boundary_codes() {
-        calls.push(text_call(vec![0x41, code, 0xAC01], 7));
+        calls.push(PARTS.call(&[0x41, code, 0xAC01], 7));
     }
     for code in texts::boundary_codes() {
-        calls.extend(in_rooms_around(&[code]));
-    }
-    calls
-}
-
-/// Short texts with bad code points in them, with room and without: 2 goes before 3.
-fn short_spoilt() -> Vec<Call> {
-    let mut random = Random::new(2);
-    let mut calls = Vec::new();
-    for length in [1, 2, 3, 5, 16, 100] {
-        for spoiling in texts::SPOILINGS {
-            for _ in 0..2 {
-                let mut text = texts::good_text(&mut random, length);
-                texts::spoil(&mut random, &mut text, spoiling);
-                let room = random.pick(&[0, 1, 3 * length as u32, 400]);
-                calls.push(text_call(text, room));
-            }
-        }
-    }
-    calls
-}
-
-/// Texts around the limit and at the protocol's bound, of one code point throughout and mixed.
-fn long_good() -> Vec<Call> {
-    let mut random = Random::new(3);
-    let mut calls = Vec::new();
-    for length in [LIMIT - 1, LIMIT, LIMIT + 1, MOST_ELEMENTS as usize] {
-        for code in [0xD7A3, 0xAC00, 0x41] {
-            calls.extend(in_rooms_around(&vec![code; length]));
-        }
-        let text = texts::good_text(&mut random, length);
-        calls.extend(in_rooms_around(&text));
-        calls.push(text_call(text, MOST_ROOM));
-    }
-    calls
-}
-
-/// Over the limit, bad and without room, in all combinations: the checks go 1, 2, 3.
-fn long_spoilt() -> Vec<Call> {
-    let mut random = Random::new(4);
-    let mut calls = Vec::new();
-    for length in [LIMIT, LIMIT + 1, MOST_ELEMENTS as usize] {
-        for spoiling in texts::SPOILINGS {
-            let mut text = texts::good_text(&mut random, length);
-            texts::spoil(&mut random, &mut text, spoiling);
-            let needed = full_parts_of_text(&text).len();
-            for room in [0, needed - 1, needed] {
-                calls.push(text_call(text.clone(), texts::bounded_room(room)));
-            }
-        }
+        calls.extend(PARTS.in_rooms_around(&[code]));
     }
     calls
 }
@@ -282,32 +175,26 @@ fn long_spoilt() -> Vec<Call> {
 fn full_parts_every() -> Vec<Call> {
     let mut calls = Vec::new();
     for code in 0xAC00..=0xD7A3 {
-        calls.extend(in_rooms_around(&[code]));
+        calls.extend(PARTS.in_rooms_around(&[code]));
     }
     for code in 0x1100..=0x11FF {
-        calls.push(text_call(vec![code], 2));
+        calls.push(PARTS.call(&[code], 2));
     }
     for code in (0xD800..=0xDFFF).chain(texts::numbers_beyond()) {
-        calls.push(text_call(vec![code], 4));
+        calls.push(PARTS.call(&[code], 4));
     }
     let syllables: Vec<u32> = (0xAC00..=0xD7A3).collect();
-    calls.extend(in_rooms_around(&syllables));
-    calls.extend(every_scalar_value());
+    calls.extend(PARTS.in_rooms_around(&syllables));
+    // Every scalar value in texts as long as the limit allows.
+    let values = texts::scalar_values();
+    let blocks = values.chunks(LIMIT);
+    calls.extend(blocks.map(|block| PARTS.with_exact_room(block)));
     calls
-}
-
-/// Every scalar value in texts as long as the limit allows, with room exactly enough.
-fn every_scalar_value() -> Vec<Call> {
-    let codes: Vec<u32> = (0..=0xD7FF).chain(0xE000..=0x10_FFFF).collect();
-    let blocks = codes.chunks(LIMIT);
-    blocks
-        .map(|block| text_call(block.to_vec(), full_parts_of_text(block).len() as u32))
-        .collect()
 }
 
 /// Refusal 1 is not among the stored ones: 16,385 code points would not be small.
 fn full_parts_stored() -> Vec<Call> {
-    let cases: [(&[u32], u32); 24] = [
+    PARTS.calls(&[
         (&[0xAC01], 4),
         (&[], 0),
         (&[], 2),
@@ -332,9 +219,5 @@ fn full_parts_stored() -> Vec<Call> {
         (&[0x41, 0xFFFF_FFFF, 0x42], 3),
         (&[0xD7FF, 0xE000, 0xDBFF, 0xDC00], 1),
         (&[0x1112, 0x1175, 0x11C2, 0xD7A3], 6),
-    ];
-    cases
-        .into_iter()
-        .map(|(text, room)| text_call(text.to_vec(), room))
-        .collect()
+    ])
 }

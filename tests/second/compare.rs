@@ -8,7 +8,7 @@ use crate::wire::{get_answer, put_call, Call, Cursor};
 use crate::words;
 use std::io::{self, Write};
 
-const MOST_REPORTED: usize = 5;
+pub const MOST_REPORTED: usize = 5;
 /// Calls that are made and held at once; beyond this a new run of the program begins.
 const CALLS_IN_ONE_RUN: usize = 250_000;
 

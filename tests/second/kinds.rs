@@ -2,8 +2,10 @@
 // It defines no answers itself; a new kind is a module of its own and one line in TABLE.
 
 use crate::cases;
+use crate::joining_cases;
 use crate::letters::Refusal;
 use crate::random::Random;
+use crate::texts;
 use crate::wire::{Answer, Call, Shape, Width};
 
 pub struct Kind {
@@ -36,6 +38,7 @@ pub const TABLE: &[&Kind] = &[
     &cases::SORTER,
     &cases::ONE_STEP,
     &cases::FULL_PARTS,
+    &joining_cases::JOINING,
 ];
 
 /// The largest kind number that the protocol gives out; the next one is unknown.
@@ -52,6 +55,17 @@ pub fn kind_of(call: &Call) -> &'static Kind {
 
 pub fn no_calls() -> Vec<Call> {
     Vec::new()
+}
+
+/// Fills numbers that no kind so far takes, in one of four calls, so that a program which looks at
+/// them is caught.
+pub fn with_unused_numbers(mut call: Call, random: &mut Random) -> Call {
+    if random.one_in(4) {
+        call.y = texts::any_code(random);
+        call.z = random.number();
+        call.w = random.between(0, 3);
+    }
+    call
 }
 
 /// The lent buffer as a call leaves it that writes nothing.

@@ -77,6 +77,16 @@ pub fn is_syllable(code: u32) -> bool {
     (0xAC00..=0xD7A3).contains(&code)
 }
 
+/// The repertoire on which full parts are NFD and joined text is NFC: ASCII, the letters' block,
+/// the syllables and the two tone marks.
+pub fn in_repertoire(code: u32) -> bool {
+    code <= 0x7F || (0x1100..=0x11FF).contains(&code) || is_syllable(code) || is_tone_mark(code)
+}
+
+pub fn is_tone_mark(code: u32) -> bool {
+    code == 0x302E || code == 0x302F
+}
+
 /// One step: the Standard's arithmetic decomposition mapping; any other code point is itself.
 pub fn one_step(code: u32) -> Vec<u32> {
     match sort_of(code) {
@@ -173,11 +183,16 @@ pub fn answer_of_one_step(code: u32) -> Result<Vec<u32>, Refusal> {
     Ok(one_step(code))
 }
 
+/// The scheme of every call that makes a text of a text; `whole` is what it makes of a good one.
 /// The checks go 1, 2, 3; each is made only where those before it passed.
-pub fn answer_of_full_parts(text: &[u32], room: u32) -> Result<Vec<u32>, Refusal> {
+pub fn answer_of_text(
+    text: &[u32],
+    room: u32,
+    whole: fn(&[u32]) -> Vec<u32>,
+) -> Result<Vec<u32>, Refusal> {
     check_length(text.len())?;
     check_codes(text)?;
-    let parts = full_parts_of_text(text);
-    check_room(parts.len(), room)?;
-    Ok(parts)
+    let made = whole(text);
+    check_room(made.len(), room)?;
+    Ok(made)
 }

@@ -4,12 +4,16 @@
 mod cases;
 mod compare;
 mod facts;
+mod joining;
+mod joining_cases;
 mod kinds;
 mod letters;
+mod published;
 mod random;
 mod run;
 mod stops;
 mod store;
+mod text_kinds;
 mod texts;
 mod wire;
 mod words;
@@ -21,9 +25,18 @@ const USAGE: &str = "usage:
   second compare PROGRAM [--seed S] [--calls N] [--under EMULATOR]
   second all PROGRAM [--under EMULATOR]
   second stops PROGRAM [--under EMULATOR]
+  second published PROGRAM FILE_OF_NORMALIZATION_TESTS [--under EMULATOR]
   second store FOLDER
   second show FILE_OF_CALLS FILE_OF_ANSWERS
-  second self";
+  second self
+kinds:";
+
+/// How the program is called, and what kinds of call it knows.
+fn usage() -> String {
+    let kinds = kinds::TABLE.iter().copied();
+    let names = kinds.map(|kind| format!(" {} {}", kind.number, kind.name));
+    USAGE.to_string() + &names.collect::<Vec<String>>().join(",")
+}
 
 /// What was asked for behind the first words of a command line.
 struct Options {
@@ -106,6 +119,11 @@ fn stops(path: &str, words: &[String]) -> Result<ExitCode, String> {
     Ok(verdict(outcome.map(|count| format!("{count} stops agree"))))
 }
 
+fn published(path: &str, file: &str, words: &[String]) -> Result<ExitCode, String> {
+    let program = options(words, &["--under"])?.program(path);
+    Ok(verdict(published::check(&program, file)))
+}
+
 fn show(calls: &str, answers: &str) -> Result<ExitCode, String> {
     let outcome = store::show(calls, answers);
     Ok(outcome.map_or_else(
@@ -132,10 +150,11 @@ fn command(words: &[String]) -> Result<ExitCode, String> {
         ["compare", path, ..] => compare(path, &words[2..]),
         ["all", path, ..] => exhaustive(path, &words[2..]),
         ["stops", path, ..] => stops(path, &words[2..]),
+        ["published", path, file, ..] => published(path, file, &words[3..]),
         ["store", folder] => Ok(verdict(Ok(store::store(folder)?))),
         ["show", calls, answers] => show(calls, answers),
         ["self"] => Ok(own_facts()),
-        _ => Err(USAGE.to_string()),
+        _ => Err(usage()),
     }
 }
 

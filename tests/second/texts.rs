@@ -118,6 +118,10 @@ pub fn numbers_beyond() -> Vec<u32> {
     codes
 }
 
+pub fn scalar_values() -> Vec<u32> {
+    (0..=0xD7FF).chain(0xE000..=0x10_FFFF).collect()
+}
+
 pub fn good_code(random: &mut Random) -> u32 {
     let (first, last) = random.pick(&GOOD_RANGES);
     random.between(first, last)
@@ -188,6 +192,9 @@ fn spelled(random: &mut Random, index: usize) -> u32 {
     }
 }
 
+/// What makes a good text of a given length.
+pub type TextMaker = fn(&mut Random, usize) -> Vec<u32>;
+
 /// A good text of the given length, of one of several styles.
 pub fn good_text(random: &mut Random, length: usize) -> Vec<u32> {
     let style = random.below(8);
@@ -209,6 +216,84 @@ pub fn good_text(random: &mut Random, length: usize) -> Vec<u32> {
             _ => good_code(random),
         });
     }
+    text
+}
+
+/// What parts letters that would join as neighbours: marks, joiners, spaces, fillers and 11A7.
+const PARTING: [u32; 12] = [
+    0x302E, 0x302F, 0x0300, 0x200B, 0x200D, 0x0020, 0x115F, 0x1160, 0x11A7, 0x3164, 0xFE0F, 0xFFFD,
+];
+
+/// The letters of one syllable, half of the time without a final.
+fn spelled_syllable(random: &mut Random) -> Vec<u32> {
+    let count = random.pick(&[2, 3]);
+    let mut letters = vec![
+        random.between(0x1100, 0x1112),
+        random.between(0x1161, 0x1175),
+        random.between(0x11A8, 0x11C2),
+    ];
+    letters.truncate(count);
+    letters
+}
+
+fn any_lv(random: &mut Random) -> u32 {
+    0xAC00 + 28 * random.between(0, 398)
+}
+
+/// Looks as if it joined, but for one letter that is old, a filler or none.
+fn nearly_joining(random: &mut Random) -> Vec<u32> {
+    let (initial, peak) = (
+        random.between(0x1100, 0x1112),
+        random.between(0x1161, 0x1175),
+    );
+    let no_initial = random.pick(&[0x10FF, 0x1113, 0x1159, 0x115F, 0xA960]);
+    let no_peak = random.pick(&[0x1160, 0x1176, 0x11A2, 0x11A7, 0xD7B0]);
+    let no_final = random.pick(&[0x11A7, 0x11C3, 0x11F9, 0x11A6, 0xD7CB]);
+    match random.below(4) {
+        0 => vec![no_initial, peak],
+        1 => vec![initial, no_peak],
+        2 => vec![initial, peak, no_final],
+        _ => vec![any_lv(random), no_final],
+    }
+}
+
+/// A few code points that join, or that a wrong joiner would join.
+fn joining_piece(random: &mut Random) -> Vec<u32> {
+    let mut letters = spelled_syllable(random);
+    let last = random.between(0x11A8, 0x11C2);
+    match random.below(12) {
+        0..=2 => letters,
+        3 => vec![any_lv(random), last],
+        4 => vec![any_lv(random), last, last],
+        5 => vec![syllable(random), last],
+        6 => {
+            // Behind the first initial or peak, where a joiner has something open.
+            letters.insert(random.pick(&[1, 2]), random.pick(&PARTING));
+            letters
+        }
+        7 => vec![any_lv(random), random.pick(&PARTING), last],
+        8 => nearly_joining(random),
+        9 => vec![letters[0]; 1 + random.below(3)],
+        10 => vec![letter(random)],
+        _ => vec![random.between(0x20, 0x7E)],
+    }
+}
+
+/// A good text of the given length in which much joins: spelled words, or pieces of many sorts.
+/// It is cut to its length, so that it may end with something open.
+pub fn joining_text(random: &mut Random, length: usize) -> Vec<u32> {
+    let style = random.below(4);
+    if style == 0 {
+        return good_text(random, length);
+    }
+    let mut text = Vec::with_capacity(length + 4);
+    while text.len() < length {
+        text.extend(match style {
+            1 => spelled_syllable(random),
+            _ => joining_piece(random),
+        });
+    }
+    text.truncate(length);
     text
 }
 
@@ -264,10 +349,10 @@ pub fn length(random: &mut Random) -> usize {
     }
 }
 
-/// A text, in one of six spoilt.
-pub fn text(random: &mut Random) -> Vec<u32> {
+/// A text of the given sort, in one of six spoilt.
+pub fn text(random: &mut Random, good: TextMaker) -> Vec<u32> {
     let count = length(random);
-    let mut text = good_text(random, count);
+    let mut text = good(random, count);
     if random.one_in(6) {
         let spoiling = random.pick(&SPOILINGS);
         spoil(random, &mut text, spoiling);

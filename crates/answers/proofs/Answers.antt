@@ -5,9 +5,11 @@ use mathlib.Core.List.{List, [], _∷_}
 use Prim.Native.Nat.{ℕ, _-_}
 use lib.ListN.{getD}
 use Rattle.answers.specs.Verdicts.{Verdict, done, refused}
-use Rattle.answers.specs.Answers.{told, refusedBy, filled}
+use Rattle.answers.specs.Answers.{told, refusedBy, checked, filled}
 use Rattle.answers.specs.declared.Refusal.{Refusal}
 use Rattle.answers.specs.declared.Refusal.the-variants.{OverLimit, BadCodePoint, NoRoom, NoSyllable, NoName, NoRecord, BadLayout}
+use Rattle.answers.specs.declared.Checked.{Checked}
+use Rattle.answers.specs.declared.Checked.the-variants.{Passed, Refused as CheckRefused}
 use Rattle.answers.specs.declared.Filled.{Filled}
 use Rattle.answers.specs.declared.Filled.the-variants.{Done, Refused}
 
@@ -38,3 +40,9 @@ filled-injective (Done m) (Done n) e = cc
 filled-injective (Done m) (Refused s) e = cc
 filled-injective (Refused r) (Done n) e = cc
 filled-injective (Refused r) (Refused s) e = ap Refused (refusedBy-injective r s e)
+
+pub checked-injective : (a b : Checked) → checked a ≡ checked b → a ≡ b
+checked-injective Passed Passed e = refl
+checked-injective Passed (CheckRefused s) e = cc
+checked-injective (CheckRefused r) Passed e = cc
+checked-injective (CheckRefused r) (CheckRefused s) e = ap CheckRefused (told-injective r s (cc) (cc))

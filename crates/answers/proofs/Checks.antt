@@ -10,6 +10,7 @@ use lib.ListN.{length, getD, drop, drop-of-length-le}
 use lib.Seq.{drop-cons}
 use lib.Dec.{ltb}
 use borrow.Author.Tests.{lt-ltb, le-ltb, ltb-true, ltb-false}
+use Rattle.laws.specs.Lists.{All, none, also}
 use Rattle.laws.specs.Ranges.{within}
 use Rattle.laws.proofs.Bools.{test}
 use Rattle.laws.proofs.Ranges.{within-yes, within-below, within-above}
@@ -50,6 +51,11 @@ module _ (l : List ℕ) (i n : ℕ) where
   pub first-bad-end : length l ≤ i → i + firstBad (drop i l) ≡ n → i ≡ n
   unfolding firstBad
   first-bad-end h q = omega (arith, simp (drop-of-length-le l h) at q)
+
+-- ---- a check passes or refuses, never both
+
+pub passes-refuses : {number place : ℕ} → passes ≡ refuses number place → ⊥
+passes-refuses e = let z : _≡_ {A = ℕ} 0 1 = cc in omega arith
 
 -- ---- each check, where it refuses and where it passes
 
@@ -117,14 +123,34 @@ module _ (room needed : ℕ) where
         test (ltb room needed) (λ e. omega (arith, lacking-size h, ltb-true room needed e))
         (λ e. absurd (h (found ∙ sym (lacking-none (ltb-false room needed e)))))
 
--- ---- a text: 1, then 2
+-- ---- a text: 1, then 2; b is its first bad code point
 
 module _ (text : List ℕ) where
   pub text-over : 16384 < length text → takesText text ≡ refuses 1 16384
+  unfolding takesText
   text-over h = simp (over-limit-refuses 16384 (length text) h)
 
-  pub text-bad : length text ≤ 16384 → firstBad text < length text → takesText text ≡ refuses 2 (firstBad text)
-  text-bad h k = simp (over-limit-passes 16384 (length text) h, bad-code-point-refuses text k)
+  module _ (short : length text ≤ 16384) {b : ℕ} (first : b ≡ firstBad text) where
+    pub text-bad : b < length text → takesText text ≡ refuses 2 b
+    unfolding takesText
+    text-bad h = rw first (simp (over-limit-passes 16384 (length text) short, bad-code-point-refuses text (rw first at h)))
 
-  pub text-taken : length text ≤ 16384 → length text ≤ firstBad text → takesText text ≡ passes
-  text-taken h k = simp (over-limit-passes 16384 (length text) h, bad-code-point-passes text k)
+    pub text-taken : length text ≤ b → takesText text ≡ passes
+    unfolding takesText
+    text-taken h = simp (over-limit-passes 16384 (length text) short, bad-code-point-passes text (rw first at h))
+
+  -- back: a text that is taken is within the limit
+  pub text-short : takesText text ≡ passes → length text ≤ 16384
+  text-short e =
+      test (ltb 16384 (length text)) (λ h. absurd (passes-refuses (sym e ∙ text-over (ltb-true 16384 (length text) h))))
+      (λ h. ltb-false 16384 (length text) h)
+
+-- ---- a text with no bad code point
+
+first-bad-none : {text : List ℕ} → All (λ c. bad c ≡ false) text → firstBad text ≡ length text
+unfolding firstBad
+first-bad-none none = refl
+first-bad-none (also h p) = rw (h, first-bad-none p)
+
+pub good-taken : (text : List ℕ) → length text ≤ 16384 → All (λ c. bad c ≡ false) text → takesText text ≡ passes
+good-taken text short good = text-taken text short refl (omega (arith, first-bad-none good))

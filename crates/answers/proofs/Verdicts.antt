@@ -1,19 +1,24 @@
 -- The ways in which a call returns, one law each: of a call that takes one code point, and of a call that fills a lent buffer, for any check,
 -- elements and value; and that any two results that the scheme admits are equal. Not here: the checks by themselves (proofs/Checks).
 -- Assumes nothing.
-use mathlib.Core.Path.{_≡_, refl, sym, _∙_}
+use mathlib.Core.Path.{_≡_, refl, sym, _∙_, ap}
 use mathlib.Core.Bool.{Bool, true, false}
 use mathlib.Core.List.{List, [], _∷_}
 use Prim.Native.Nat.{ℕ, _≤_, _<_}
 use native.Mathlib.Omega.{arith}
 use lib.ListN.{length}
 use Rattle.laws.specs.Writing.{front, Fronts}
-use Rattle.answers.specs.Checks.{Check, passes, refuses, bad, firstBad, badCodePoint, lacking, takesText}
+use Rattle.answers.specs.Checks.{Check, passes, refuses, bad, badCodePoint, lacking, takesText}
 use Rattle.answers.specs.Verdicts.{Verdict, done, refused, verdict, Fills}
-use Rattle.answers.specs.Answers.{Makes}
-use Rattle.answers.specs.declared.Refusal.the-variants.{OverLimit, BadCodePoint, NoRoom}
+use Rattle.answers.specs.Answers.{checked, Makes}
+use Rattle.answers.specs.declared.Refusal.{Refusal}
+use Rattle.answers.specs.declared.Refusal.the-variants.{NoRoom}
+use Rattle.answers.specs.declared.Checked.{Checked}
+use Rattle.answers.specs.declared.Checked.the-variants.{Passed, Refused as CheckRefused}
+use Rattle.answers.specs.declared.Filled.{Filled}
 use Rattle.answers.specs.declared.Filled.the-variants.{Done, Refused}
-use Rattle.answers.proofs.Checks.{code-bad, code-good, no-room-refuses, no-room-passes, lacking-size, lacking-less, lacking-room, text-over, text-bad, text-taken}
+use Rattle.answers.proofs.Answers.{filled-injective}
+use Rattle.answers.proofs.Checks.{code-bad, code-good, no-room-refuses, no-room-passes, lacking-size, lacking-less, lacking-room}
 
 -- ---- a call that takes one code point: b is what the test for a bad one answered
 
@@ -43,22 +48,34 @@ module _ {A Value : Type 0} {before : Check} {whole out : List A} {value : Value
   pub fills-unique : {a b : Verdict Value} {o p : List A} → Fills before whole value out a o → Fills before whole value out b p → (a ≡ b) × (o ≡ p)
   fills-unique f g = (f .answers ∙ sym (g .answers), f .leaves ∙ sym (g .leaves))
 
--- ---- a call that makes of a text another: the four ways in which it returns, by what the code has at each
+-- the checks passed
+pub checks-passed : {v : Checked} {before : Check} → checked v ≡ before → v ≡ Passed → before ≡ passes
+checks-passed e q = sym e ∙ ap checked q
+
+-- ---- a call that makes of a text another: the three ways in which it returns, by what the code has at each
 
 module _ (make : List ℕ → List ℕ) {text out : List ℕ} where
-  pub makes-over : 16384 < length text → Makes make text out (Refused (OverLimit 16384)) out
-  makes-over h = record { fills = refused-before (text-over text h) }
+  -- v is what the checks said
+  pub makes-refused : {v : Checked} {r : Refusal} → checked v ≡ takesText text → v ≡ CheckRefused r → Makes make text out (Refused r) out
+  makes-refused e q = record { fills = refused-before (sym e ∙ ap checked q) }
 
-  module _ (short : length text ≤ 16384) {b : ℕ} (first : b ≡ firstBad text) where
-    pub makes-bad : b < length text → Makes make text out (Refused (BadCodePoint b)) out
-    makes-bad h = record { fills = rw first (refused-before (text-bad text short (rw first at h))) }
+  -- n is what is found to be lacking
+  module _ (taken : takesText text ≡ passes) {n : ℕ} (found : n ≡ lacking (length out) (length (make text))) where
+    pub makes-lacking : (n ≡ 0 → ⊥) → Makes make text out (Refused (NoRoom n)) out
+    makes-lacking h =
+        record { fills = refused-room taken (lacking-size (length out) (length (make text)) found h) (lacking-less (length out) (length (make text)) found h) }
 
-    -- n is what is found to be lacking
-    module _ (good : length text ≤ b) {n : ℕ} (found : n ≡ lacking (length out) (length (make text))) where
-      pub makes-lacking : (n ≡ 0 → ⊥) → Makes make text out (Refused (NoRoom n)) out
-      makes-lacking h =
-          record { fills = refused-room (text-taken text short (rw first at good)) (lacking-size (length out) (length (make text)) found h) (lacking-less (length out) (length (make text)) found h) }
+    pub makes-done : n ≡ 0 → {k : ℕ} {out′ : List ℕ} → Fronts (make text) out k out′ → Makes make text out (Done k) out′
+    makes-done e w =
+        record { fills = rw (w .size) (filled-whole taken (lacking-room (length out) (length (make text)) found e) (w .holds)) }
 
-      pub makes-done : n ≡ 0 → {k : ℕ} {out′ : List ℕ} → Fronts (make text) out k out′ → Makes make text out (Done k) out′
-      makes-done e w =
-          record { fills = rw (w .size) (filled-whole (text-taken text short (rw first at good)) (lacking-room (length out) (length (make text)) found e) (w .holds)) }
+-- any two results are equal; and so are those of two texts that pass the same checks and of which the same is made
+pub makes-same : (make : List ℕ → List ℕ) {x y : List ℕ} (out : List ℕ) → takesText x ≡ takesText y → make x ≡ make y → {r s : Filled} {o p : List ℕ}
+    → Makes make x out r o → Makes make y out s p → (r ≡ s) × (o ≡ p)
+makes-same make out e q f g =
+    let h = fills-unique (rw (e, q) at (f .fills)) (g .fills) in
+    (filled-injective _ _ (h .0), h .1)
+
+pub makes-unique : (make : List ℕ → List ℕ) (text out : List ℕ) {r s : Filled} {o p : List ℕ} → Makes make text out r o → Makes make text out s p
+    → (r ≡ s) × (o ≡ p)
+makes-unique make text out f g = makes-same make out refl refl f g

@@ -3,11 +3,13 @@
 use mathlib.Core.List.{List}
 use Prim.Native.Nat.{ℕ}
 use lib.ListN.{length}
-use Rattle.answers.specs.Checks.{takesText}
+use Rattle.answers.specs.Checks.{Check, passes, refuses, takesText}
 use Rattle.answers.specs.Verdicts.{Verdict, done, refused, Fills}
 use Rattle.answers.specs.declared.Refusal.{Refusal}
 use Rattle.answers.specs.declared.Refusal.the-variants.{OverLimit, BadCodePoint, NoRoom, NoSyllable, NoName, NoRecord, BadLayout}
 use Rattle.answers.specs.declared.Told.{Told}
+use Rattle.answers.specs.declared.Checked.{Checked}
+use Rattle.answers.specs.declared.Checked.the-variants.{Passed, Refused as CheckRefused}
 use Rattle.answers.specs.declared.Filled.{Filled}
 use Rattle.answers.specs.declared.Filled.the-variants.{Done, Refused}
 
@@ -24,6 +26,11 @@ told (BadLayout byte) = record { number = 7; place = byte }
 -- a refusal as a verdict of any call
 abbrev pub refusedBy : {Value : Type 0} → Refusal → Verdict Value
 refusedBy r = refused (told r .number) (told r .place)
+
+-- what the checks say
+abbrev pub checked : Checked → Check
+checked Passed = passes
+checked (CheckRefused r) = refuses (told r .number) (told r .place)
 
 -- the answer of a call that fills a buffer: the value is the length
 abbrev pub filled : Filled → Verdict ℕ

@@ -45,5 +45,5 @@ unfoldable pub lacking : ℕ → ℕ → ℕ
 lacking room needed = cond (ltb room needed) needed 0
 
 -- what precedes 3 where a text of code points is taken: 1, then 2
-abbrev pub takesText : List ℕ → Check
+unfoldable pub takesText : List ℕ → Check
 takesText text = inOrder (overLimit 16384 (length text) ∷ badCodePoint text ∷ [])

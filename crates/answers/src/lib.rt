@@ -1,8 +1,8 @@
 // Refusals, answers, and the first bad code point of a text (document 01, 'Refusal numbers').
 // What every call has in common, and nothing of Hangul.
 ghost use mathlib.Core.Path.{_≡_};
-ghost use Rattle.answers.specs.Checks.{bad, firstBad};
-ghost use Rattle.answers.specs.Answers.{told};
+ghost use Rattle.answers.specs.Checks.{bad, firstBad, takesText};
+ghost use Rattle.answers.specs.Answers.{told, checked};
 
 // The most code points or bytes that a call takes.
 pub const LIMIT: usize = 16384;
@@ -34,6 +34,12 @@ pub struct Told {
 // The answer of a call that fills a lent buffer: how much of it, or why not.
 pub enum Filled {
     Done(usize),
+    Refused(Refusal),
+}
+
+// What the checks before the work say: go on, or why not.
+pub enum Checked {
+    Passed,
     Refused(Refusal),
 }
 
@@ -96,4 +102,18 @@ pub fn first_bad(text: &[u32]) -> usize
         i += 1;
     }
     i
+}
+
+// The checks that a text of code points has to pass before anything is made of it: 1, then 2.
+pub fn check_text(text: &[u32]) -> Checked
+    ensures { λ r. ⌜ checked r ≡ takesText (now (text .entry)) ⌝ }
+{
+    if LIMIT < text.len() {
+        return Checked::Refused(Refusal::OverLimit(LIMIT));
+    }
+    let bad = first_bad(text);
+    if bad < text.len() {
+        return Checked::Refused(Refusal::BadCodePoint(bad));
+    }
+    Checked::Passed
 }

@@ -1,4 +1,4 @@
-// The kinds of call on code points: 1 the sorter, 2 the one step, 3 full parts.
+// The kinds of call on code points: 1 the sorter, 2 the one step, 3 full parts, 4 joining.
 // Not here: how a call comes in and an answer goes out.
 use crate::reply;
 use crate::reply::Reply;
@@ -8,7 +8,7 @@ use letters::step::Parts;
 use letters::step::Stepped;
 
 pub fn is_kind(kind: u32) -> bool {
-    1 <= kind && kind <= 3
+    1 <= kind && kind <= 4
 }
 
 // The sorts as numbers, in the order of document 01.
@@ -53,6 +53,7 @@ pub fn call(kind: u32, code: u32, text: &[u32], out: &mut [u32]) -> Reply {
     match kind {
         1 => sorted(letters::sort::sorter(code)),
         2 => stepped(letters::step::one_step(code)),
-        _ => reply::filled(letters::apart::full_parts(text, out)),
+        3 => reply::filled(letters::apart::full_parts(text, out)),
+        _ => reply::filled(joining::text::join(text, out)),
     }
 }

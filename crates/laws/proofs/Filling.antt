@@ -8,10 +8,11 @@ use Prim.Native.Nat.{ℕ, suc, _+_, _-_, _≤_, _<_}
 use native.Mathlib.Nat.{add-zero, add-suc, suc-add}
 use native.Mathlib.Numerals.{add-one}
 use native.Mathlib.Omega.{arith}
-use lib.ListN.{length, getD, drop, set, length-append, length-drop}
+use lib.ListN.{length, getD, drop, set, length-append, length-drop, drop-of-length-le}
 use lib.Seq.{sets, length-sets, drop-cons, set-at}
 use Rattle.laws.specs.Writing.{front, Room, Wrote, Fronts}
 use Rattle.laws.specs.Lists.{each}
+use Rattle.laws.specs.Machines.{Machine, from}
 use Rattle.laws.proofs.Lists.{each-next, each-end}
 
 -- ---- a piece
@@ -24,6 +25,16 @@ pub each-piece : {A B : Type 0} (f : A → List B) (d : A) (l : List A) (i : ℕ
     → Piece (each f (drop i l)) (f (getD l i d)) (each f (drop (i + 1) l))
 each-piece f d l i h = record { eq = each-next f d l i h }
 
+-- what a machine gives from here on: what it emits at i, and then what it gives behind it; t and xs are the next state and what is emitted, as the code
+-- has them. At the end, what is flushed
+module _ {S A B : Type 0} (m : Machine S A B) where
+  pub machine-piece : {s t : S} {xs : List B} (d : A) (l : List A) (i : ℕ) → i < length l → t ≡ m .step s (getD l i d) → xs ≡ m .emit s (getD l i d)
+      → Piece (from m s (drop i l)) xs (from m t (drop (i + 1) l))
+  machine-piece d l i h e q = record { eq = rw (add-one, drop-cons l i d h, e, q) }
+
+  pub machine-last : {s : S} {xs : List B} (l : List A) (i : ℕ) → length l ≤ i → xs ≡ m .flush s → Piece (from m s (drop i l)) xs []
+  machine-last l i h q = record { eq = rw (drop-of-length-le l h, append-nil, q) }
+
 -- ---- Room and Wrote
 
 module _ {A : Type 0} where
@@ -33,6 +44,12 @@ module _ {A : Type 0} where
 
   pub wrote-one : {all out : List A} {at : ℕ} {x : A} → all ≡ x ∷ [] → Wrote out at all (at + 1) (set out at x)
   wrote-one e = rw e (record { behind = refl; holds = refl })
+
+  pub wrote-none : {all out : List A} {at : ℕ} → all ≡ [] → Wrote out at all at out
+  wrote-none e = rw e (record { behind = omega arith; holds = refl })
+
+  pub wrote-pair : {all out : List A} {at : ℕ} {x y : A} → all ≡ x ∷ y ∷ [] → Wrote out at all (at + 2) (set (set out at x) (at + 1) y)
+  wrote-pair e = rw e (record { behind = refl; holds = rw add-one })
 
   pub wrote-two : {all xs ys out out′ out″ : List A} {at k r : ℕ} → Piece all xs ys → Wrote out at xs k out′ → Wrote out′ k ys r out″
       → Wrote out at all r out″
@@ -46,6 +63,9 @@ module _ {A : Type 0} where
 
   pub room-one : {all out : List A} {at : ℕ} {x : A} → Room out at all → all ≡ x ∷ [] → at < length out
   room-one h e = omega (arith, h .fits, ap length e)
+
+  pub room-pair : {all out : List A} {at : ℕ} {x y : A} → Room out at all → all ≡ x ∷ y ∷ [] → at + 1 < length out
+  room-pair h e = omega (arith, h .fits, ap length e)
 
   pub room-first : {all xs ys out : List A} {at : ℕ} → Room out at all → Piece all xs ys → Room out at xs
   room-first h p = record { fits = omega (arith, h .fits, simp length-append at (ap length (p .eq))) }
@@ -65,6 +85,10 @@ pub record Filling {A : Type 0} (whole rest out₀ out : List A) (k : ℕ) : Typ
 module _ {A : Type 0} where
   pub filling-none : (whole out : List A) → Filling whole whole out out 0
   filling-none whole out = record { done = []; size = refl; all = refl; is = refl }
+
+  -- the same where what is left is the whole by an equation
+  pub filling-begin : {whole left : List A} (out : List A) → left ≡ whole → Filling whole left out out 0
+  filling-begin {whole} out e = rw e (filling-none whole out)
 
   -- k and what is still to be written are together as long as the whole
   pub filling-count : {whole rest out₀ out : List A} {k : ℕ} → Filling whole rest out₀ out k → k + length rest ≡ length whole
@@ -113,6 +137,11 @@ module _ {A : Type 0} where
     holds = f .is ∙ ap (λ (w : List A). front w out₀) (sym (append-nil (f .done)) ∙ ap (λ (r : List A). f .done ++ r) (sym e) ∙ f .all);
   }
 
+  -- the last piece is written, and nothing is left
+  pub filling-last : {whole left xs out₀ out out′ : List A} {k k′ : ℕ} → length whole ≤ length out₀ → Filling whole left out₀ out k → Piece left xs []
+      → Wrote out k xs k′ out′ → Fronts whole out₀ k′ out′
+  filling-last h f p w = filling-all (filling-more h f p w) refl
+
 -- ---- Counting: the same with no buffer, k elements counted
 
 pub record Counting {A : Type 0} (whole rest : List A) (k : ℕ) : Type 0 where
@@ -122,6 +151,9 @@ module _ {A : Type 0} where
   pub counting-none : (whole : List A) → Counting whole whole 0
   counting-none whole = record { sum = omega arith }
 
+  pub counting-begin : {whole left : List A} → left ≡ whole → Counting whole left 0
+  counting-begin {whole} e = rw e (counting-none whole)
+
   pub counting-fits : {whole left xs rest : List A} {k n : ℕ} → Counting whole left k → Piece left xs rest → n ≡ length xs → k + n ≤ length whole
   counting-fits f p e = omega (arith, f .sum, simp length-append at (ap length (p .eq)))
 
@@ -130,3 +162,6 @@ module _ {A : Type 0} where
 
   pub counting-all : {whole rest : List A} {k : ℕ} → Counting whole rest k → rest ≡ [] → k ≡ length whole
   counting-all f e = omega (arith, f .sum, ap length e)
+
+  pub counting-last : {whole left xs : List A} {k n : ℕ} → Counting whole left k → Piece left xs [] → n ≡ length xs → k + n ≡ length whole
+  counting-last f p e = counting-all (counting-more f p e) refl

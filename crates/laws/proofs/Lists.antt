@@ -1,4 +1,4 @@
--- Laws of lists that the libraries lack. In order: two lists that make nothing (`nil-left`, `nil-right`); one list cut in two ways, with fronts as
+-- Laws of lists that the libraries lack. In order: two lists that make nothing (`nil-left`, `nil-right`), one and two (`one-not-two`); one list cut in two ways, with fronts as
 -- long (`cut-front`, `cut-back`) or with any (`Cuts`, `cuts`); then `All`, `each` (at a loop's index at the end) and `count`, a section each.
 -- Not here: `append-assoc`, `append-nil` (mathlib.Core.List), `length-append` (lib.ListN), places by number (lib.Seq). Assumes nothing.
 use mathlib.Core.Path.{_≡_, refl, sym, _∙_, ap}
@@ -22,6 +22,9 @@ module _ {A : Type 0} where
   pub nil-right : (x y : List A) → x ++ y ≡ [] → y ≡ []
   nil-right [] y e = e
   nil-right (a ∷ x) y e = absurd (cons≢nil e)
+
+  pub one-not-two : {a b c : A} → a ∷ [] ≡ b ∷ c ∷ [] → ⊥
+  one-not-two e = omega (arith, ap length e)
 
   -- one list cut in two ways, with fronts as long: the fronts are equal, and the backs
   pub cut-front : (u t x y : List A) → u ++ t ≡ x ++ y → length u ≡ length x → u ≡ x
@@ -110,6 +113,12 @@ module _ {A B : Type 0} (f : A → List B) where
   unfolding each
   all-each h [] = none
   all-each h (a ∷ x) = all-append (h a) (all-each h x)
+
+  -- and those of elements that have Q
+  pub all-each-of : {P : B → Type 0} {Q : A → Type 0} → ((a : A) → Q a → All P (f a)) → {x : List A} → All Q x → All P (each f x)
+  unfolding each
+  all-each-of h none = none
+  all-each-of h (also {a = a} q p) = all-append (h a q) (all-each-of h p)
 
   -- at a loop's index: what is left is what stands at i, and then what is left behind it
   pub each-next : (d : A) (l : List A) (i : ℕ) → i < length l → each f (drop i l) ≡ f (getD l i d) ++ each f (drop (i + 1) l)

@@ -8,9 +8,11 @@ use native.Mathlib.Numerals.{sub-one}
 use native.Mathlib.Omega.{arith}
 use lib.ListN.{length, getD, drop}
 use Rattle.laws.specs.Lists.{each, All, none, also}
-use Rattle.laws.proofs.Lists.{each-end, each-one, each-cons, each-append, each-each, each-alone, each-same, all-each, all-map, length-each-least, length-each-most}
+use Rattle.laws.proofs.Lists.{one-not-two, each-end, each-one, each-cons, each-append, each-each, each-alone, each-same, all-each, all-each-of, all-map, length-each-least, length-each-most}
 use Rattle.laws.proofs.Filling.{Piece, each-piece}
 use Rattle.letters.specs.Syllables.{isSyllable, indexOf, initialOf, peakOf, finalOf, oneStep, partsTo, partsOf, fullParts}
+use Rattle.answers.specs.Checks.{bad}
+use Rattle.answers.proofs.Checks.{good-low}
 use Rattle.letters.specs.Answers.{listed}
 use Rattle.letters.specs.declared.step.Parts.{Parts}
 use Rattle.letters.specs.declared.step.Parts.the-variants.{One, Two}
@@ -31,14 +33,11 @@ unfolding partsTo
 parts-other zero c h = refl
 parts-other (suc d) c h = rw (step-other c h, each-one) (parts-other d c h)
 
-alone-or-two : {a b c : ℕ} → a ∷ [] ≡ b ∷ c ∷ [] → ⊥
-alone-or-two e = omega (arith, ap length e)
-
 -- one part, and two: p is what the code's one step answered
 pub parts-one : (d c : ℕ) {p : Parts} {a : ℕ} → listed p ≡ oneStep c → p ≡ One a → partsTo d c ≡ a ∷ []
 parts-one d c {p} {a} q r =
     let e : a ∷ [] ≡ oneStep c = rw r at q in
-    by-step c (λ h f. absurd (alone-or-two (e ∙ step-lv c h f))) (λ h f. absurd (alone-or-two (e ∙ step-lvt c h f)))
+    by-step c (λ h f. absurd (one-not-two (e ∙ step-lv c h f))) (λ h f. absurd (one-not-two (e ∙ step-lvt c h f)))
     (λ h. parts-other d c h ∙ sym (step-other c h) ∙ sym e)
 
 pub parts-two : (d c : ℕ) {p : Parts} {a b : ℕ} → (d ≡ 0 → ⊥) → listed p ≡ oneStep c → p ≡ Two a b
@@ -78,26 +77,26 @@ module _ (d s : ℕ) where
       → partsTo (suc (suc d)) s ≡ (0x1100 + initialOf s) ∷ (0x1161 + peakOf s) ∷ (0x11A7 + finalOf s) ∷ []
   parts-lvt h e = lvt-parts d s h e
 
+-- what holds of every number below the syllables, and of a code point that is none, holds of its parts
+parts-all : {P : ℕ → Type 0} → ((p : ℕ) → p < 0xAC00 → P p) → (c : ℕ) → (isSyllable c ≡ false → P c) → All P (partsOf c)
+parts-all low c itself =
+    by-step c
+    (λ h e. let m = syllable-most c h in rw (parts-lv 0 c h e) (also (low (0x1100 + initialOf c) (omega arith)) (also (low (0x1161 + peakOf c) (omega arith)) none)))
+    (λ h e.
+    let m = syllable-most c h in
+    rw (parts-lvt 0 c h e)
+    (also (low (0x1100 + initialOf c) (omega arith)) (also (low (0x1161 + peakOf c) (omega arith)) (also (low (0x11A7 + finalOf c) (omega arith)) none))))
+    (λ h. rw (parts-other 2 c h) (also (itself h) none))
+
 -- ---- nothing changes any more
 
 -- a code point whose one step is itself
 abbrev pub Closed : ℕ → Type 0
 Closed c = oneStep c ≡ c ∷ []
 
-low-closed : (c : ℕ) → c < 0xAC00 → Closed c
-low-closed c h = step-other c (syllable-below c h)
-
 -- EVERY PART'S ONE STEP IS ITSELF
 pub parts-closed : (c : ℕ) → All Closed (partsOf c)
-parts-closed c =
-    by-step c
-    (λ h e. let m = syllable-most c h in rw (parts-lv 0 c h e) (also (low-closed (0x1100 + initialOf c) (omega arith)) (also (low-closed (0x1161 + peakOf c) (omega arith)) none)))
-    (λ h e.
-    let m = syllable-most c h in
-    rw (parts-lvt 0 c h e)
-    (also (low-closed (0x1100 + initialOf c) (omega arith))
-    (also (low-closed (0x1161 + peakOf c) (omega arith)) (also (low-closed (0x11A7 + finalOf c) (omega arith)) none))))
-    (λ h. rw (parts-other 2 c h) (also (step-other c h) none))
+parts-closed c = parts-all (λ p h. step-other p (syllable-below p h)) c (step-other c)
 
 -- so a greater depth gives the same
 pub parts-deeper : (d c : ℕ) → partsTo (suc (suc d)) c ≡ partsOf c
@@ -140,6 +139,13 @@ full-full x = each-alone partsOf (all-map (λ c h. closed-parts 2 c h) (full-clo
 -- the full parts of one step are the full parts
 pub full-of-step : (x : List ℕ) → fullParts (each oneStep x) ≡ fullParts x
 full-of-step x = each-each partsOf oneStep x ∙ each-same (λ c. each partsOf (oneStep c)) partsOf (λ c. sym (parts-more 2 c) ∙ parts-deeper 1 c) x
+
+-- the parts of good code points are good
+parts-good : (c : ℕ) → bad c ≡ false → All (λ p. bad p ≡ false) (partsOf c)
+parts-good c g = parts-all (λ p h. good-low p (omega arith)) c (λ h. g)
+
+pub full-good : {x : List ℕ} → All (λ c. bad c ≡ false) x → All (λ c. bad c ≡ false) (fullParts x)
+full-good p = all-each-of partsOf parts-good p
 
 -- at most 3n, at least n
 pub full-most : (x : List ℕ) → length (fullParts x) ≤ 3 * length x

@@ -72,3 +72,13 @@ modern-peak-range c e = only (letter-inside (equals ModernPeak) refl refl c (sam
 
 pub modern-final-range : (c : ℕ) → sortOf c ≡ ModernFinal → (0x11A8 ≤ c) × (c ≤ 0x11C2)
 modern-final-range c e = only (letter-inside (equals ModernFinal) refl refl c (same ModernFinal c e))
+
+pub lv-range : (c : ℕ) → sortOf c ≡ Lv → (0xAC00 ≤ c) × (c ≤ 0xD7A3) × ((c - 0xAC00) % 28 ≡ 0)
+unfolding sortOf
+lv-range c e = by (within 0xAC00 0xD7A3 c) (eqb ((c - 0xAC00) % 28) 0) refl refl e
+  where
+    by : (a b : Bool) → within 0xAC00 0xD7A3 c ≡ a → eqb ((c - 0xAC00) % 28) 0 ≡ b → cond a (cond b Lv Lvt) (look Other c letterRanges) ≡ Lv
+        → (0xAC00 ≤ c) × (c ≤ 0xD7A3) × ((c - 0xAC00) % 28 ≡ 0)
+    by true true w q e = (within-least 0xAC00 0xD7A3 c w, within-most 0xAC00 0xD7A3 c w, eqb-true _ _ q)
+    by true false w q e = absurd (omega (arith, ap sortNumber e))
+    by false b w q e = absurd (look-inside Other (equals Lv) c letterRanges (rw e tt))
