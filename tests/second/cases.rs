@@ -53,6 +53,7 @@ pub const FULL_PARTS: Kind = Kind {
 
 pub const PARTS: TextKind = TextKind {
     number: 3,
+    lent: Width::Number,
     whole: full_parts_of_text,
     growth: 3,
     good_text: texts::good_text,

@@ -6,7 +6,7 @@ use crate::kinds::{no_calls, Kind};
 use crate::letters::is_bad;
 use crate::text_kinds::{packed, TextKind};
 use crate::texts;
-use crate::wire::{Call, Shape};
+use crate::wire::{Call, Shape, Width};
 use crate::words;
 
 pub const JOINING: Kind = Kind {
@@ -25,6 +25,7 @@ pub const JOINING: Kind = Kind {
 
 pub const JOINED: TextKind = TextKind {
     number: 4,
+    lent: Width::Number,
     whole: joined,
     growth: 1,
     good_text: texts::joining_text,

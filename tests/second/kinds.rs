@@ -5,8 +5,10 @@ use crate::cases;
 use crate::joining_cases;
 use crate::letters::Refusal;
 use crate::random::Random;
+use crate::reading_cases;
 use crate::texts;
 use crate::wire::{Answer, Call, Shape, Width};
+use crate::writing_cases;
 
 pub struct Kind {
     pub number: u32,
@@ -39,6 +41,8 @@ pub const TABLE: &[&Kind] = &[
     &cases::ONE_STEP,
     &cases::FULL_PARTS,
     &joining_cases::JOINING,
+    &reading_cases::READING,
+    &writing_cases::WRITING,
 ];
 
 /// The largest kind number that the protocol gives out; the next one is unknown.

@@ -12,7 +12,7 @@ pub const T_COUNT: u32 = 28;
 pub const N_COUNT: u32 = V_COUNT * T_COUNT;
 pub const S_COUNT: u32 = L_COUNT * N_COUNT;
 
-/// The largest number of code points that a call takes.
+/// The largest number of code points, or of bytes, that a call takes.
 pub const LIMIT: usize = 16_384;
 
 /// The sorts in the order of their numbers on the wire.

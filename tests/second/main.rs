@@ -1,22 +1,29 @@
 // The second program: checks a proved Hangul library from outside, by definitions of its own.
 // It shares no code with the library and reads only what the program `calls` writes.
 
+mod byte_texts;
 mod cases;
 mod compare;
 mod facts;
 mod joining;
 mod joining_cases;
+mod joining_facts;
 mod kinds;
+mod letter_facts;
 mod letters;
 mod published;
 mod random;
+mod reading_cases;
 mod run;
 mod stops;
 mod store;
 mod text_kinds;
 mod texts;
+mod utf8;
+mod utf8_facts;
 mod wire;
 mod words;
+mod writing_cases;
 
 use run::Program;
 use std::process::ExitCode;

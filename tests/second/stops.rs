@@ -3,6 +3,7 @@
 
 use crate::cases::FULL_PARTS;
 use crate::kinds::{kind_of, Kind, LAST_KIND, TABLE};
+use crate::reading_cases::READING;
 use crate::run::{Ending, Program};
 use crate::wire::{put_answer, put_call, put_number, Call, Shape};
 use crate::wire::{CALL_HEADER, MOST_ELEMENTS, MOST_ROOM};
@@ -103,6 +104,7 @@ fn one_over(kind: &Kind, place: usize, bound: u32) -> Vec<u8> {
     if place == ROOM_PLACE {
         return bytes;
     }
+    // Four bytes for each, also where an element is one byte: then there are more than enough.
     for _ in 0..=bound {
         put_number(0x41, &mut bytes);
     }
@@ -159,18 +161,23 @@ fn cut_calls(stops: &mut Vec<Stop>) {
 
 /// Long calls without their last byte: also one that would be refused has to be there whole.
 fn long_cut_calls(stops: &mut Vec<Stop>) {
-    for length in [2, 16_384, 16_385, MOST_ELEMENTS as usize] {
-        let text = vec![0x41; length];
-        let call = Call {
-            kind: FULL_PARTS.number,
-            room: 1,
-            a: text,
-            ..Call::default()
-        };
-        let bytes = call_bytes(&call);
-        for missing in [1, 4, 5] {
-            let title = format!("{length} elements but for the last {missing} bytes");
-            stops.push(stop(title, Around::Before, &bytes[..bytes.len() - missing]));
+    // Elements of four bytes, and of one.
+    for kind in [&FULL_PARTS, &READING] {
+        for length in [8, 16_384, 16_385, MOST_ELEMENTS as usize] {
+            let call = Call {
+                kind: kind.number,
+                room: 1,
+                a: vec![0x41; length],
+                ..Call::default()
+            };
+            let bytes = call_bytes(&call);
+            for missing in [1, 4, 5] {
+                let title = format!(
+                    "{} of {length} elements but for the last {missing} bytes",
+                    kind.name
+                );
+                stops.push(stop(title, Around::Before, &bytes[..bytes.len() - missing]));
+            }
         }
     }
 }

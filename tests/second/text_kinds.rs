@@ -9,9 +9,11 @@ use crate::wire::{Answer, Call, Width, MOST_ELEMENTS, MOST_ROOM};
 
 pub struct TextKind {
     pub number: u32,
+    /// What the elements of the lent buffer are: of a text, or of its bytes.
+    pub lent: Width,
     /// What is made of a text that is not refused.
     pub whole: fn(&[u32]) -> Vec<u32>,
-    /// The most code points that are made of one.
+    /// The most elements that are made of one code point.
     pub growth: usize,
     /// The texts that show the most here.
     pub good_text: TextMaker,
@@ -22,7 +24,7 @@ pub struct TextKind {
 impl TextKind {
     pub fn answer(&self, call: &Call) -> Answer {
         let outcome = answer_of_text(&call.a, call.room, self.whole);
-        in_buffer(call, Width::Number, outcome)
+        in_buffer(call, self.lent, outcome)
     }
 
     pub fn call(&self, text: &[u32], room: usize) -> Call {
@@ -137,9 +139,9 @@ impl TextKind {
 }
 
 /// The pieces one behind the other, in texts as long as the limit allows; no piece is cut.
-pub fn packed(pieces: impl IntoIterator<Item = Vec<u32>>) -> Vec<Vec<u32>> {
+pub fn packed<Element>(pieces: impl IntoIterator<Item = Vec<Element>>) -> Vec<Vec<Element>> {
     let mut texts = Vec::new();
-    let mut text: Vec<u32> = Vec::new();
+    let mut text: Vec<Element> = Vec::new();
     for piece in pieces {
         if text.len() + piece.len() > LIMIT {
             texts.push(std::mem::take(&mut text));

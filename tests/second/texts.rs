@@ -102,6 +102,13 @@ pub fn look_alike_codes() -> Vec<u32> {
     codes
 }
 
+/// Good code points that a program may be tempted to treat in a way of its own: controls, the ends
+/// of lines, the byte order mark, the replacement character and noncharacters.
+pub const TEMPTING_CODES: [u32; 13] = [
+    0x00, 0x0A, 0x0D, 0x1A, 0x85, 0x2028, 0xFDD0, 0xFEFF, 0xFFFD, 0xFFFE, 0xFFFF, 0x1_FFFE,
+    0x10_FFFF,
+];
+
 /// Bad numbers for the exhaustive run: the named ones and seeded ones above 10FFFF.
 pub fn numbers_beyond() -> Vec<u32> {
     let mut codes = vec![0x11_0000, 0x11_0001, 0x7FFF_FFFF, 0x8000_0000, 0xFFFF_FFFF];

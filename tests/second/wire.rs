@@ -56,6 +56,19 @@ impl Shape {
         returns_image: false,
     };
 
+    /// Bytes in, code points out.
+    pub const BYTES_TO_CODES: Shape = Shape {
+        a: Width::Byte,
+        b: Width::Byte,
+        ..Shape::CODES
+    };
+
+    /// Code points in, bytes out.
+    pub const CODES_TO_BYTES: Shape = Shape {
+        lent: Width::Byte,
+        ..Shape::CODES
+    };
+
     pub fn most_of_a(&self) -> u32 {
         if self.image {
             MOST_IMAGE_BYTES

@@ -41,15 +41,36 @@ pub fn code_argument(call: &Call) -> String {
 
 /// The arguments of a kind that takes a text of code points and a lent buffer.
 pub fn text_argument(call: &Call) -> String {
+    elements_argument(call, Width::Number)
+}
+
+/// The arguments of a kind that takes bytes and a lent buffer.
+pub fn bytes_argument(call: &Call) -> String {
+    elements_argument(call, Width::Byte)
+}
+
+fn elements_argument(call: &Call, width: Width) -> String {
     if call.a.is_empty() {
         return format!("no text room {}", call.room);
     }
-    format!("{} room {}", list(&call.a, Width::Number), call.room)
+    format!("{} room {}", list(&call.a, width), call.room)
 }
 
 /// The answer of a kind that fills the lent buffer with code points.
 pub fn codes_in_buffer(_call: &Call, answer: &Answer) -> String {
     in_buffer(answer, Width::Number) + &unexpected_values(answer.second, answer.third)
+}
+
+/// The answer of a kind that fills the lent buffer with bytes.
+pub fn bytes_in_buffer(_call: &Call, answer: &Answer) -> String {
+    in_buffer(answer, Width::Byte) + &unexpected_values(answer.second, answer.third)
+}
+
+/// The answer of a kind that fills the lent buffer with code points and counts what it mended.
+pub fn codes_and_subparts(_call: &Call, answer: &Answer) -> String {
+    let front = in_buffer(answer, Width::Number);
+    let rest = unexpected_values(0, answer.third);
+    format!("{front}, {} ill-formed{rest}", answer.second)
 }
 
 /// The length, the front of the buffer, and how many elements behind it were left as they were.

@@ -1,9 +1,10 @@
--- Laws of the checks: a bad code point by its range; the first one, at a loop's index; each check where it refuses and where it passes.
--- Not here: the verdicts made of them (proofs/Verdicts). Assumes nothing.
+-- Laws of the checks: a bad code point by its range; the first one, at a loop's index; each check where it refuses and where it passes;
+-- and back, what a code point that is not bad and a text that is taken say. Not here: the verdicts made of them (proofs/Verdicts). Assumes nothing.
 use mathlib.Core.Path.{_≡_, refl, sym, _∙_}
-use mathlib.Core.Bool.{true, false}
+use mathlib.Core.Bool.{Bool, true, false, cond}
+use mathlib.Core.Logic.{_⊎_}
 use mathlib.Core.List.{List, [], _∷_}
-use Prim.Native.Nat.{ℕ, _+_, _≤_, _<_}
+use Prim.Native.Nat.{ℕ, suc, _+_, _≤_, _<_}
 use native.Mathlib.Numerals.{add-one}
 use native.Mathlib.Omega.{arith}
 use lib.ListN.{length, getD, drop, drop-of-length-le}
@@ -12,9 +13,10 @@ use lib.Dec.{ltb}
 use borrow.Author.Tests.{lt-ltb, le-ltb, ltb-true, ltb-false}
 use Rattle.laws.specs.Lists.{All, none, also}
 use Rattle.laws.specs.Ranges.{within}
-use Rattle.laws.proofs.Bools.{test}
-use Rattle.laws.proofs.Ranges.{within-yes, within-below, within-above}
-use Rattle.answers.specs.Checks.{Check, passes, refuses, overLimit, bad, firstBad, badCodePoint, noRoom, lacking, takesText}
+use Rattle.laws.proofs.Bools.{test, or-left, or-right}
+use Rattle.laws.proofs.Lists.{all-at}
+use Rattle.laws.proofs.Ranges.{within-yes, within-below, within-above, within-not}
+use Rattle.answers.specs.Checks.{Check, passes, refuses, overLimit, bad, firstBad, badCodePoint, noRoom, lacking, takesText, takesBytes}
 
 -- ---- bad, by the ranges
 
@@ -154,3 +156,48 @@ first-bad-none (also h p) = rw (h, first-bad-none p)
 
 pub good-taken : (text : List ℕ) → length text ≤ 16384 → All (λ c. bad c ≡ false) text → takesText text ≡ passes
 good-taken text short good = text-taken text short refl (omega (arith, first-bad-none good))
+
+-- ---- a text of bytes: 1
+
+module _ (bytes : List ℕ) where
+  pub bytes-over : 16384 < length bytes → takesBytes bytes ≡ refuses 1 16384
+  unfolding takesBytes
+  bytes-over h = over-limit-refuses 16384 (length bytes) h
+
+  pub bytes-taken : length bytes ≤ 16384 → takesBytes bytes ≡ passes
+  unfolding takesBytes
+  bytes-taken h = over-limit-passes 16384 (length bytes) h
+
+  pub bytes-short : takesBytes bytes ≡ passes → length bytes ≤ 16384
+  bytes-short e =
+      test (ltb 16384 (length bytes)) (λ h. absurd (passes-refuses (sym e ∙ bytes-over (ltb-true 16384 (length bytes) h))))
+      (λ h. ltb-false 16384 (length bytes) h)
+
+-- ---- back: a code point that is not bad, and a text that is taken
+
+pub good-most : (c : ℕ) → bad c ≡ false → c ≤ 0x10FFFF
+unfolding bad
+good-most c e = ltb-false 0x10FFFF c (or-left (ltb 0x10FFFF c) (within 0xD800 0xDFFF c) e)
+
+pub good-gap : (c : ℕ) → bad c ≡ false → (c < 0xD800) ⊎ (0xDFFF < c)
+unfolding bad
+good-gap c e = within-not 0xD800 0xDFFF c (or-right (ltb 0x10FFFF c) (within 0xD800 0xDFFF c) e)
+
+first-bad-all : (text : List ℕ) → length text ≤ firstBad text → All (λ c. bad c ≡ false) text
+unfolding firstBad
+first-bad-all [] h = none
+first-bad-all (c ∷ text) h = by (bad c) refl h (first-bad-all text)
+  where
+    by : (b : Bool) → bad c ≡ b → length (c ∷ text) ≤ cond b 0 (suc (firstBad text))
+        → (length text ≤ firstBad text → All (λ c. bad c ≡ false) text) → All (λ c. bad c ≡ false) (c ∷ text)
+    by true e h rest = absurd (omega arith)
+    by false e h rest = also e (rest (omega arith))
+
+pub taken-all : (text : List ℕ) → takesText text ≡ passes → All (λ c. bad c ≡ false) text
+taken-all text e =
+    test (ltb (firstBad text) (length text))
+    (λ h. absurd (passes-refuses (sym e ∙ text-bad text (text-short text e) refl (ltb-true (firstBad text) (length text) h))))
+    (λ h. first-bad-all text (ltb-false (firstBad text) (length text) h))
+
+pub taken-good : (text : List ℕ) → takesText text ≡ passes → (i : ℕ) → i < length text → bad (getD text i 0) ≡ false
+taken-good text e i h = all-at 0 (taken-all text e) i h

@@ -47,3 +47,7 @@ lacking room needed = cond (ltb room needed) needed 0
 -- what precedes 3 where a text of code points is taken: 1, then 2
 unfoldable pub takesText : List ℕ → Check
 takesText text = inOrder (overLimit 16384 (length text) ∷ badCodePoint text ∷ [])
+
+-- and where a text of bytes is taken: 1
+unfoldable pub takesBytes : List ℕ → Check
+takesBytes bytes = overLimit 16384 (length bytes)

@@ -1,7 +1,7 @@
 // Refusals, answers, and the first bad code point of a text (document 01, 'Refusal numbers').
 // What every call has in common, and nothing of Hangul.
 ghost use mathlib.Core.Path.{_≡_};
-ghost use Rattle.answers.specs.Checks.{bad, firstBad, takesText};
+ghost use Rattle.answers.specs.Checks.{bad, firstBad, takesBytes, takesText};
 ghost use Rattle.answers.specs.Answers.{told, checked};
 
 // The most code points or bytes that a call takes.
@@ -114,6 +114,16 @@ pub fn check_text(text: &[u32]) -> Checked
     let bad = first_bad(text);
     if bad < text.len() {
         return Checked::Refused(Refusal::BadCodePoint(bad));
+    }
+    Checked::Passed
+}
+
+// The check that a text of bytes has to pass: 1.
+pub fn check_bytes(bytes: &[u8]) -> Checked
+    ensures { λ r. ⌜ checked r ≡ takesBytes (now (bytes .entry)) ⌝ }
+{
+    if LIMIT < bytes.len() {
+        return Checked::Refused(Refusal::OverLimit(LIMIT));
     }
     Checked::Passed
 }

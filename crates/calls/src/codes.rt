@@ -7,10 +7,6 @@ use letters::sort::Sorted;
 use letters::step::Parts;
 use letters::step::Stepped;
 
-pub fn is_kind(kind: u32) -> bool {
-    1 <= kind && kind <= 4
-}
-
 // The sorts as numbers, in the order of document 01.
 fn number_of(sort: Sort) -> u32 {
     match sort {

@@ -1,6 +1,7 @@
 // calls: one door to every public call, for an independent program to drive (docs/CALLS.md). Reads
 // calls on standard input and writes answers on standard output; the work is the library's.
 mod codes;
+mod encoded;
 mod reply;
 mod wire;
 
@@ -53,11 +54,23 @@ fn write_answer(answer: reply::Reply, lent: &[u32], bytes: &mut [u8]) -> bool {
     write_front(bytes, 4 * count)
 }
 
-// Reads the call's elements, calls, and answers; says whether to go on.
-fn answer_on(kind: u32, code: u32, text: &mut [u32], lent: &mut [u32], bytes: &mut [u8]) -> bool {
-    if !codes::is_kind(kind) {
+// The same where the lent buffer is of bytes.
+fn write_bytes(answer: reply::Reply, lent: &[u8], bytes: &mut [u8]) -> bool {
+    reply::put(answer, bytes);
+    if !write_front(bytes, 16) {
         return false;
     }
+    io::write_all(libc::STDOUT_FILENO, lent)
+}
+
+// A call on code points that fills code points: reads its elements, calls, and answers.
+fn answer_codes(
+    kind: u32,
+    code: u32,
+    text: &mut [u32],
+    lent: &mut [u32],
+    bytes: &mut [u8],
+) -> bool {
     if !read_numbers(bytes, text) {
         return false;
     }
@@ -66,38 +79,90 @@ fn answer_on(kind: u32, code: u32, text: &mut [u32], lent: &mut [u32], bytes: &m
     write_answer(answer, lent, bytes)
 }
 
-// Answers the call whose head was read, and says whether to go on: no where it is too large, and
-// where it has elements of b, which none of these kinds takes.
-fn answer_call(head: &[u8], text: &mut [u32], lent: &mut [u32], bytes: &mut [u8]) -> bool {
+// Reading UTF-8: bytes in, code points out.
+fn answer_read(text: &mut [u8], lent: &mut [u32], bytes: &mut [u8]) -> bool {
+    if !read_whole(text) {
+        return false;
+    }
+    wire::fill(lent);
+    let answer = encoded::read(text, lent);
+    write_answer(answer, lent, bytes)
+}
+
+// Writing UTF-8: code points in, bytes out.
+fn answer_write(text: &mut [u32], lent: &mut [u8], bytes: &mut [u8]) -> bool {
+    if !read_numbers(bytes, text) {
+        return false;
+    }
+    wire::fill_bytes(lent);
+    let answer = encoded::write(text, lent);
+    write_bytes(answer, lent, bytes)
+}
+
+// Answers the call whose head was read, and says whether to go on: no where it is too large, where
+// it is of no kind, and where it has elements of b, which none of these kinds takes.
+fn answer_call(
+    head: &[u8],
+    text: &mut [u32],
+    input: &mut [u8],
+    lent: &mut [u32],
+    filled: &mut [u8],
+    bytes: &mut [u8],
+) -> bool {
+    let kind = wire::number(head, 0);
+    let code = wire::number(head, 1);
     let room = wire::number(head, 5) as usize;
     let first = wire::number(head, 6) as usize;
     if lent.len() < room {
         return false;
     }
+    if filled.len() < room {
+        return false;
+    }
     if text.len() < first {
+        return false;
+    }
+    if input.len() < first {
         return false;
     }
     if wire::number(head, 7) != 0 {
         return false;
     }
-    let kind = wire::number(head, 0);
-    let code = wire::number(head, 1);
-    answer_on(kind, code, &mut text[..first], &mut lent[..room], bytes)
+    match kind {
+        1..=4 => answer_codes(kind, code, &mut text[..first], &mut lent[..room], bytes),
+        10 => answer_read(&mut input[..first], &mut lent[..room], bytes),
+        11 => answer_write(&mut text[..first], &mut filled[..room], bytes),
+        _ => false,
+    }
 }
 
 // Answers one call: false at the end of the input, and where a call is no good.
-fn one_call(head: &mut [u8], text: &mut [u32], lent: &mut [u32], bytes: &mut [u8]) -> bool {
+fn one_call(
+    head: &mut [u8],
+    text: &mut [u32],
+    input: &mut [u8],
+    lent: &mut [u32],
+    filled: &mut [u8],
+    bytes: &mut [u8],
+) -> bool {
     if !read_whole(head) {
         return false;
     }
-    answer_call(head, text, lent, bytes)
+    answer_call(head, text, input, lent, filled, bytes)
 }
 
 // A proved loop has to end, and nothing says that the input does: it counts its turns down from a
 // number that no run uses up.
-fn all_calls(head: &mut [u8], text: &mut [u32], lent: &mut [u32], bytes: &mut [u8]) {
+fn all_calls(
+    head: &mut [u8],
+    text: &mut [u32],
+    input: &mut [u8],
+    lent: &mut [u32],
+    filled: &mut [u8],
+    bytes: &mut [u8],
+) {
     let mut turns = u64::MAX;
-    while turns > 0 && one_call(head, text, lent, bytes) {
+    while turns > 0 && one_call(head, text, input, lent, filled, bytes) {
         turns -= 1;
     }
 }
@@ -105,7 +170,16 @@ fn all_calls(head: &mut [u8], text: &mut [u32], lent: &mut [u32], bytes: &mut [u
 fn main() {
     let mut head = [0u8; HEAD];
     let mut text = [0u32; ELEMENTS];
+    let mut input = [0u8; ELEMENTS];
     let mut lent = [0u32; ROOM];
+    let mut filled = [0u8; ROOM];
     let mut bytes = [0u8; 4 * ROOM + 16];
-    all_calls(&mut head, &mut text, &mut lent, &mut bytes);
+    all_calls(
+        &mut head,
+        &mut text,
+        &mut input,
+        &mut lent,
+        &mut filled,
+        &mut bytes,
+    );
 }

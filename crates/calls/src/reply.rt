@@ -25,6 +25,10 @@ pub fn done(value: u32, second: u32, third: u32) -> Reply {
     }
 }
 
+pub fn counted(length: usize, ills: usize) -> Reply {
+    done(short(length), short(ills), 0)
+}
+
 pub fn refused(refusal: Refusal) -> Reply {
     let told = answers::tell(refusal);
     Reply {

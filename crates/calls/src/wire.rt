@@ -59,3 +59,11 @@ pub fn fill(out: &mut [u32]) {
         i += 1;
     }
 }
+
+pub fn fill_bytes(out: &mut [u8]) {
+    let mut i = 0;
+    while i < out.len() {
+        out[i] = 0xA5;
+        i += 1;
+    }
+}

@@ -5,7 +5,7 @@
 -- In order: one step of the joiner (`step-apart`, `emit-apart`, `step-joined`, `emit-joined`); what a code point leaves open (`opens-as`, `meets-pair`,
 -- `once`, `stays-open`); the joined text with no machine (`join-one`, `join-joined`, `join-apart`, `join-closed`); two and three at once (`join-two`,
 -- `join-three`, `join-two-letters`, `join-three-letters`); left to right, only neighbours (`left-to-right`, `neighbours`); cuts (`fence`, `join-cut`,
--- `none-wall`, `mark-wall`); joining what was taken apart (`join-step`, `join-parts-to`, `join-parts`); taking apart what was joined (`parts-join`,
+-- `none-wall`, `mark-wall`, `mark-around`); joining what was taken apart (`join-step`, `join-parts-to`, `join-parts`); taking apart what was joined (`parts-join`,
 -- `join-join`, `same-join`, `same-parts`); lengths (`join-most`, `join-least`); a text in which nothing joins (`join-none`).
 -- Assumes nothing.
 use mathlib.Core.Path.{_≡_, refl, sym, _∙_, ap}
@@ -19,7 +19,7 @@ use Rattle.laws.specs.Lists.{each, All, none as no-more, also}
 use Rattle.laws.specs.Machines.{outs, ends, from, Splits, Fence, Wall}
 use Rattle.laws.proofs.Bools.{test}
 use Rattle.laws.proofs.Lists.{each-each, each-alone, all-of}
-use Rattle.laws.proofs.Machines.{from-append, cut, same-whole}
+use Rattle.laws.proofs.Machines.{from-append, cut, around, same-whole}
 use Rattle.letters.specs.Syllables.{oneStep, partsTo, fullParts}
 use Rattle.joining.specs.declared.role.Role.{Role}
 use Rattle.joining.specs.declared.role.Role.the-variants.{Initial as RoleInitial, Peak, Final, Lv as RoleLv, None}
@@ -157,8 +157,15 @@ fence-as c e t = let h = hard-as c e t in fence c (h .0) (h .1)
 pub none-wall : (c : ℕ) → roleOf c ≡ None → Wall joiner c
 none-wall c e = let f = fence-as c e tt in record { resets = λ o. f .forgets o ∙ opens-as c e; closes = f .closes }
 
+mark-role : roleOf 0xFFFD ≡ None
+mark-role = role-between 0xD7A4 0x10FFFF 0xFFFD tt (omega arith) (omega arith)
+
 pub mark-wall : Wall joiner 0xFFFD
-mark-wall = none-wall 0xFFFD (role-between 0xD7A4 0x10FFFF 0xFFFD tt (omega arith) (omega arith))
+mark-wall = none-wall 0xFFFD mark-role
+
+-- around it: what all before it joins to, itself, what all behind it joins to
+pub mark-around : (x y : List ℕ) → join (x ++ 0xFFFD ∷ y) ≡ join x ++ 0xFFFD ∷ join y
+mark-around x y = around joiner 0xFFFD x y mark-wall ∙ rw (opens-as 0xFFFD mark-role)
 
 -- ---- joining what was taken apart
 

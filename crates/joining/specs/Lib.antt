@@ -1,3 +1,5 @@
+-- Crate joining, specs/: joining, grouping, and what a step answers, lowest first.
+-- Not here: any law or proof (proofs/).
 pub mod Joining
 pub mod Grouping
 pub mod Steps

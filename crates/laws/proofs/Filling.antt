@@ -51,6 +51,19 @@ module _ {A : Type 0} where
   pub wrote-pair : {all out : List A} {at : ℕ} {x y : A} → all ≡ x ∷ y ∷ [] → Wrote out at all (at + 2) (set (set out at x) (at + 1) y)
   wrote-pair e = rw e (record { behind = refl; holds = rw add-one })
 
+  pub wrote-three : {all out : List A} {at : ℕ} {x y z : A} → all ≡ x ∷ y ∷ z ∷ []
+      → Wrote out at all (at + 3) (set (set (set out at x) (at + 1) y) (at + 2) z)
+  wrote-three {at = at} e =
+      let two : at + 2 ≡ suc (suc at) = omega arith in
+      rw e (record { behind = refl; holds = rw (add-one, two) })
+
+  pub wrote-four : {all out : List A} {at : ℕ} {x y z w : A} → all ≡ x ∷ y ∷ z ∷ w ∷ []
+      → Wrote out at all (at + 4) (set (set (set (set out at x) (at + 1) y) (at + 2) z) (at + 3) w)
+  wrote-four {at = at} e =
+      let two : at + 2 ≡ suc (suc at) = omega arith in
+      let three : at + 3 ≡ suc (suc (suc at)) = omega arith in
+      rw e (record { behind = refl; holds = rw (add-one, two, three) })
+
   pub wrote-two : {all xs ys out out′ out″ : List A} {at k r : ℕ} → Piece all xs ys → Wrote out at xs k out′ → Wrote out′ k ys r out″
       → Wrote out at all r out″
   wrote-two {xs = xs} {ys = ys} p v w = rw (p .eq) (record {
@@ -66,6 +79,10 @@ module _ {A : Type 0} where
 
   pub room-pair : {all out : List A} {at : ℕ} {x y : A} → Room out at all → all ≡ x ∷ y ∷ [] → at + 1 < length out
   room-pair h e = omega (arith, h .fits, ap length e)
+
+  -- the same of any list: at its end there is still room
+  pub room-all : {all xs out : List A} {at : ℕ} → Room out at all → all ≡ xs → at + length xs ≤ length out
+  room-all h e = omega (arith, h .fits, ap length e)
 
   pub room-first : {all xs ys out : List A} {at : ℕ} → Room out at all → Piece all xs ys → Room out at xs
   room-first h p = record { fits = omega (arith, h .fits, simp length-append at (ap length (p .eq))) }

@@ -1,3 +1,5 @@
+-- Crate laws, proofs/: the laws of lists, ranges, tables, machines, pieces, readings, damage and writing, lowest first.
+-- Not here: the definitions (specs/), and the proofs of the functions, which stand in folders of their own.
 pub mod Bools
 pub mod Lists
 pub mod Ranges

@@ -77,6 +77,12 @@ pub all-map : {A : Type 0} {P Q : A → Type 0} → ((a : A) → P a → Q a) �
 all-map f none = none
 all-map f (also {a = a} h p) = also (f a h) (all-map f p)
 
+-- at an index
+pub all-at : {A : Type 0} {P : A → Type 0} (d : A) {l : List A} → All P l → (i : ℕ) → i < length l → P (getD l i d)
+all-at d none i h = absurd (omega arith)
+all-at d (also p q) zero h = p
+all-at d (also p q) (suc i) h = all-at d q i (omega arith)
+
 -- ---- each
 
 module _ {A B : Type 0} (f : A → List B) where

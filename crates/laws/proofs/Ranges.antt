@@ -1,5 +1,6 @@
 -- Ranges of numbers: from the orders to a test and back; what a list of ranges says of every number between two bounds; and where a number
--- lies whose value is known. In order: `within`; `look` forwards (`look-between`); `look` backwards (`look-inside`).
+-- lies whose value is known. In order: `within`; `look` forwards (`look-between`); `look` backwards (`look-inside`, and with any
+-- statement of the value `look-cases`).
 -- Not here: the definitions (specs/Ranges). Assumes nothing.
 use mathlib.Core.Path.{_≡_, refl, sym, _∙_, ap}
 use mathlib.Core.Bool.{Bool, true, false, cond, _&&_, _||_}
@@ -98,3 +99,19 @@ module _ {V′ : Type 0} (none : V′) (f : V′ → Bool) (c : ℕ) where
       by : (b : Bool) → within lo hi c ≡ b → T (f (cond b v (look none c rs))) → (T (f (look none c rs)) → Inside rs) → Inside (range lo hi v ∷ rs)
       by true e t rest = or-here (f v) _ _ t (within-least lo hi c e, within-most lo hi c e)
       by false e t rest = or-later (f v) _ _ (rest t)
+
+-- ---- backwards, with what holds of the value
+
+module _ {V′ : Type 0} (none : V′) (P : V′ → Type 0) (c : ℕ) where
+  -- c lies in a range of the list and P holds of the range's value, or P holds of `none`: computes to the sum of all ranges
+  abbrev pub Cases : List (Range V′) → Type 0
+  Cases [] = P none
+  Cases (range lo hi v ∷ rs) = ((lo ≤ c) × ((c ≤ hi) × P v)) ⊎ Cases rs
+
+  pub look-cases : (rs : List (Range V′)) → P (look none c rs) → Cases rs
+  look-cases [] p = p
+  look-cases (range lo hi v ∷ rs) p = by (within lo hi c) refl p (look-cases rs)
+    where
+      by : (b : Bool) → within lo hi c ≡ b → P (cond b v (look none c rs)) → (P (look none c rs) → Cases rs) → Cases (range lo hi v ∷ rs)
+      by true e p rest = inl (within-least lo hi c e, (within-most lo hi c e, p))
+      by false e p rest = inr (rest p)

@@ -1,3 +1,5 @@
+-- Crate laws, specs/: the definitions that know nothing of Hangul: lists, ranges, machines, pieces, readings, damage, writing, lowest first.
+-- Not here: any law or proof (proofs/).
 pub mod Lists
 pub mod Ranges
 pub mod Machines

@@ -10,11 +10,17 @@ use Rattle.calls.proofs.answer_call.Tie as tie
 number-requires : tie.Need-number-requires
 number-requires c κs = search needs
 
+number-requires-2 : tie.Need-number-requires-2
+number-requires-2 c κs = search needs
+
+number-requires-3 : tie.Need-number-requires-3
+number-requires-3 c κs = search needs
+
 cast-room : tie.Need-cast-room
 cast-room c = search needs
 
-number-requires-2 : tie.Need-number-requires-2
-number-requires-2 c κs = search needs
+number-requires-4 : tie.Need-number-requires-4
+number-requires-4 c κs = search needs
 
 cast-first : tie.Need-cast-first
 cast-first c = search needs
@@ -25,32 +31,62 @@ returns c = search needs
 returns-2 : tie.Need-returns-2
 returns-2 c = search needs
 
-number-requires-3 : tie.Need-number-requires-3
-number-requires-3 c κs = search needs
-
 returns-3 : tie.Need-returns-3
 returns-3 c = search needs
 
-number-requires-4 : tie.Need-number-requires-4
-number-requires-4 c κs = search needs
+returns-4 : tie.Need-returns-4
+returns-4 c = search needs
 
 number-requires-5 : tie.Need-number-requires-5
 number-requires-5 c κs = search needs
 
-slice-relend-prefix-answer-on : tie.Need-slice-relend-prefix-answer-on
-slice-relend-prefix-answer-on c = search needs
+returns-5 : tie.Need-returns-5
+returns-5 c = search needs
 
-slice-aggregate-answer-on : tie.Need-slice-aggregate-answer-on
-slice-aggregate-answer-on c = sym (length-take-le _ _ (omega arith))
+slice-relend-prefix-answer-read : tie.Need-slice-relend-prefix-answer-read
+slice-relend-prefix-answer-read c = search needs
 
-slice-relend-prefix-answer-on-2 : tie.Need-slice-relend-prefix-answer-on-2
-slice-relend-prefix-answer-on-2 c = search needs
+slice-aggregate-answer-read : tie.Need-slice-aggregate-answer-read
+slice-aggregate-answer-read c = sym (length-take-le _ _ (omega arith))
 
-slice-aggregate-answer-on-2 : tie.Need-slice-aggregate-answer-on-2
-slice-aggregate-answer-on-2 c = sym (length-take-le _ _ (omega arith))
+slice-relend-prefix-answer-read-2 : tie.Need-slice-relend-prefix-answer-read-2
+slice-relend-prefix-answer-read-2 c = search needs
 
-answer-on-requires : tie.Need-answer-on-requires
-answer-on-requires c κs = search needs
+slice-aggregate-answer-read-2 : tie.Need-slice-aggregate-answer-read-2
+slice-aggregate-answer-read-2 c = sym (length-take-le _ _ (omega arith))
+
+answer-read-requires : tie.Need-answer-read-requires
+answer-read-requires c κs = search needs
+
+slice-relend-prefix-answer-write : tie.Need-slice-relend-prefix-answer-write
+slice-relend-prefix-answer-write c = search needs
+
+slice-aggregate-answer-write : tie.Need-slice-aggregate-answer-write
+slice-aggregate-answer-write c = sym (length-take-le _ _ (omega arith))
+
+slice-relend-prefix-answer-write-2 : tie.Need-slice-relend-prefix-answer-write-2
+slice-relend-prefix-answer-write-2 c = search needs
+
+slice-aggregate-answer-write-2 : tie.Need-slice-aggregate-answer-write-2
+slice-aggregate-answer-write-2 c = sym (length-take-le _ _ (omega arith))
+
+answer-write-requires : tie.Need-answer-write-requires
+answer-write-requires c κs = search needs
+
+slice-relend-prefix-answer-codes : tie.Need-slice-relend-prefix-answer-codes
+slice-relend-prefix-answer-codes c = search needs
+
+slice-aggregate-answer-codes : tie.Need-slice-aggregate-answer-codes
+slice-aggregate-answer-codes c = sym (length-take-le _ _ (omega arith))
+
+slice-relend-prefix-answer-codes-2 : tie.Need-slice-relend-prefix-answer-codes-2
+slice-relend-prefix-answer-codes-2 c = search needs
+
+slice-aggregate-answer-codes-2 : tie.Need-slice-aggregate-answer-codes-2
+slice-aggregate-answer-codes-2 c = sym (length-take-le _ _ (omega arith))
+
+answer-codes-requires : tie.Need-answer-codes-requires
+answer-codes-requires c κs = search needs
 
 same-length : tie.Need-same-length
 same-length c = search needs
@@ -61,29 +97,81 @@ same-length-2 c = search needs
 same-length-3 : tie.Need-same-length-3
 same-length-3 c = search needs
 
-returns-4 : tie.Need-returns-4
-returns-4 c = search needs
+returns-6 : tie.Need-returns-6
+returns-6 c = search needs
+
+same-length-4 : tie.Need-same-length-4
+same-length-4 c = search needs
+
+same-length-5 : tie.Need-same-length-5
+same-length-5 c = search needs
+
+same-length-6 : tie.Need-same-length-6
+same-length-6 c = search needs
+
+returns-7 : tie.Need-returns-7
+returns-7 c = search needs
+
+same-length-7 : tie.Need-same-length-7
+same-length-7 c = search needs
+
+same-length-8 : tie.Need-same-length-8
+same-length-8 c = search needs
+
+same-length-9 : tie.Need-same-length-9
+same-length-9 c = search needs
+
+returns-8 : tie.Need-returns-8
+returns-8 c = search needs
+
+returns-9 : tie.Need-returns-9
+returns-9 c = search needs
+
+returns-10 : tie.Need-returns-10
+returns-10 c = search needs
 
 pub answer-call-spec : {M : Type 1} → statement M
 answer-call-spec =
     tie.close
     (tie.spec
     number-requires
-    cast-room
     number-requires-2
+    number-requires-3
+    cast-room
+    number-requires-4
     cast-first
     returns
     returns-2
-    number-requires-3
     returns-3
-    number-requires-4
+    returns-4
     number-requires-5
-    slice-relend-prefix-answer-on
-    slice-aggregate-answer-on
-    slice-relend-prefix-answer-on-2
-    slice-aggregate-answer-on-2
-    answer-on-requires
+    returns-5
+    slice-relend-prefix-answer-read
+    slice-aggregate-answer-read
+    slice-relend-prefix-answer-read-2
+    slice-aggregate-answer-read-2
+    answer-read-requires
+    slice-relend-prefix-answer-write
+    slice-aggregate-answer-write
+    slice-relend-prefix-answer-write-2
+    slice-aggregate-answer-write-2
+    answer-write-requires
+    slice-relend-prefix-answer-codes
+    slice-aggregate-answer-codes
+    slice-relend-prefix-answer-codes-2
+    slice-aggregate-answer-codes-2
+    answer-codes-requires
     same-length
     same-length-2
     same-length-3
-    returns-4)
+    returns-6
+    same-length-4
+    same-length-5
+    same-length-6
+    returns-7
+    same-length-7
+    same-length-8
+    same-length-9
+    returns-8
+    returns-9
+    returns-10)

@@ -26,10 +26,12 @@ returns : tie.Need-returns
 returns c = sym (ap (λ (o : Open). meets o (c .before .before .args .code)) (c .enum-told .given .1))
 
 returns-2 : tie.Need-returns-2
-returns-2 c = c .joined .ensures ∙ sym (ap (λ (o : Open). meets o (c .before .before .before .before .args .code)) (c .before .before .state .given .1))
+returns-2 c =
+    c .joined .ensures ∙ sym (ap (λ (o : Open). meets o (c .before .before .before .before .args .code)) (c .before .before .state .given .1))
 
 returns-3 : tie.Need-returns-3
-returns-3 c = c .joined2 .ensures ∙ sym (ap (λ (o : Open). meets o (c .before .before .before .before .args .code)) (c .before .before .state2 .given .1))
+returns-3 c =
+    c .joined2 .ensures ∙ sym (ap (λ (o : Open). meets o (c .before .before .before .before .args .code)) (c .before .before .state2 .given .1))
 
 pub met-spec : {M : Type 1} → statement M
 met-spec =

@@ -27,13 +27,22 @@ written-requires-2 : tie.Need-written-requires-2
 written-requires-2 c κs = search needs
 
 returns : tie.Need-returns
-returns c = c .written-before .ensures ∙ sym (ap (λ (o : Open). held (c .before .before .before .args .state) ++ unless o (c .before .before .before .args .code)) (c .before .enum-told .given .1))
+returns c =
+    c .written-before .ensures ∙ sym
+    (ap (λ (o : Open). held (c .before .before .before .args .state) ++ unless o (c .before .before .before .args .code))
+    (c .before .enum-told .given .1))
 
 returns-2 : tie.Need-returns-2
-returns-2 c = c .written .ensures ∙ sym (append-nil _) ∙ sym (ap (λ (o : Open). held (c .before .before .before .args .state) ++ unless o (c .before .before .before .args .code)) (c .before .enum-told2 .given .1))
+returns-2 c =
+    c .written .ensures ∙ sym (append-nil _) ∙ sym
+    (ap (λ (o : Open). held (c .before .before .before .args .state) ++ unless o (c .before .before .before .args .code))
+    (c .before .enum-told2 .given .1))
 
 returns-3 : tie.Need-returns-3
-returns-3 c = c .written2 .ensures ∙ sym (append-nil _) ∙ sym (ap (λ (o : Open). held (c .before .before .before .args .state) ++ unless o (c .before .before .before .args .code)) (c .before .enum-told3 .given .1))
+returns-3 c =
+    c .written2 .ensures ∙ sym (append-nil _) ∙ sym
+    (ap (λ (o : Open). held (c .before .before .before .args .state) ++ unless o (c .before .before .before .args .code))
+    (c .before .enum-told3 .given .1))
 
 pub parted-spec : {M : Type 1} → statement M
 parted-spec =

@@ -16,10 +16,22 @@ enum-told : tie.Need-enum-told
 enum-told c = search needs
 
 sub-result : tie.Need-sub-result
-sub-result c = omega (arith, syllable-most (c .before .before .before .args .first) (lv-syllable (c .before .before .before .args .first) (sym (c .before .before .role-of .ensures) ∙ c .enum-told .given .1)), final-range (c .before .before .before .args .last) (c .before .before .before .pre))
+sub-result c =
+    omega (
+      arith,
+      syllable-most (c .before .before .before .args .first)
+          (lv-syllable (c .before .before .before .args .first) (sym (c .before .before .role-of .ensures) ∙ c .enum-told .given .1)),
+      final-range (c .before .before .before .args .last) (c .before .before .before .pre),
+    )
 
 add-result : tie.Need-add-result
-add-result c = omega (arith, syllable-most (c .before .before .before .args .first) (lv-syllable (c .before .before .before .args .first) (sym (c .before .before .role-of .ensures) ∙ c .enum-told .given .1)), final-range (c .before .before .before .args .last) (c .before .before .before .pre))
+add-result c =
+    omega (
+      arith,
+      syllable-most (c .before .before .before .args .first)
+          (lv-syllable (c .before .before .before .args .first) (sym (c .before .before .role-of .ensures) ∙ c .enum-told .given .1)),
+      final-range (c .before .before .before .args .last) (c .before .before .before .pre),
+    )
 
 enum-told-2 : tie.Need-enum-told-2
 enum-told-2 c = search needs

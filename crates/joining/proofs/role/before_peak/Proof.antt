@@ -15,22 +15,52 @@ enum-told : tie.Need-enum-told
 enum-told c = search needs
 
 sub-result : tie.Need-sub-result
-sub-result c = omega (arith, initial-range (c .before .before .before .args .first) (sym (c .before .before .role-of .ensures) ∙ c .enum-told .given .1), peak-range (c .before .before .before .args .peak) (c .before .before .before .pre))
+sub-result c =
+    omega (
+      arith,
+      initial-range (c .before .before .before .args .first) (sym (c .before .before .role-of .ensures) ∙ c .enum-told .given .1),
+      peak-range (c .before .before .before .args .peak) (c .before .before .before .pre),
+    )
 
 mul-result : tie.Need-mul-result
-mul-result c = omega (arith, initial-range (c .before .before .before .args .first) (sym (c .before .before .role-of .ensures) ∙ c .enum-told .given .1), peak-range (c .before .before .before .args .peak) (c .before .before .before .pre))
+mul-result c =
+    omega (
+      arith,
+      initial-range (c .before .before .before .args .first) (sym (c .before .before .role-of .ensures) ∙ c .enum-told .given .1),
+      peak-range (c .before .before .before .args .peak) (c .before .before .before .pre),
+    )
 
 add-result : tie.Need-add-result
-add-result c = omega (arith, initial-range (c .before .before .before .args .first) (sym (c .before .before .role-of .ensures) ∙ c .enum-told .given .1), peak-range (c .before .before .before .args .peak) (c .before .before .before .pre))
+add-result c =
+    omega (
+      arith,
+      initial-range (c .before .before .before .args .first) (sym (c .before .before .role-of .ensures) ∙ c .enum-told .given .1),
+      peak-range (c .before .before .before .args .peak) (c .before .before .before .pre),
+    )
 
 sub-result-2 : tie.Need-sub-result-2
-sub-result-2 c = omega (arith, initial-range (c .before .before .before .args .first) (sym (c .before .before .role-of .ensures) ∙ c .enum-told .given .1), peak-range (c .before .before .before .args .peak) (c .before .before .before .pre))
+sub-result-2 c =
+    omega (
+      arith,
+      initial-range (c .before .before .before .args .first) (sym (c .before .before .role-of .ensures) ∙ c .enum-told .given .1),
+      peak-range (c .before .before .before .args .peak) (c .before .before .before .pre),
+    )
 
 mul-result-2 : tie.Need-mul-result-2
-mul-result-2 c = omega (arith, initial-range (c .before .before .before .args .first) (sym (c .before .before .role-of .ensures) ∙ c .enum-told .given .1), peak-range (c .before .before .before .args .peak) (c .before .before .before .pre))
+mul-result-2 c =
+    omega (
+      arith,
+      initial-range (c .before .before .before .args .first) (sym (c .before .before .role-of .ensures) ∙ c .enum-told .given .1),
+      peak-range (c .before .before .before .args .peak) (c .before .before .before .pre),
+    )
 
 add-result-2 : tie.Need-add-result-2
-add-result-2 c = omega (arith, initial-range (c .before .before .before .args .first) (sym (c .before .before .role-of .ensures) ∙ c .enum-told .given .1), peak-range (c .before .before .before .args .peak) (c .before .before .before .pre))
+add-result-2 c =
+    omega (
+      arith,
+      initial-range (c .before .before .before .args .first) (sym (c .before .before .role-of .ensures) ∙ c .enum-told .given .1),
+      peak-range (c .before .before .before .args .peak) (c .before .before .before .pre),
+    )
 
 enum-told-2 : tie.Need-enum-told-2
 enum-told-2 c = search needs

@@ -20,7 +20,10 @@ same-length : tie.Need-same-length
 same-length c = search needs
 
 returns-2 : tie.Need-returns-2
-returns-2 c = makes-done join (c .before .before .before .before .before .before .before .before .pre) (c .before .before .before .before .before .join-lacking .ensures) (c .before .before .before .before .if1 .left) (c .before .before .write-joined .ensures)
+returns-2 c =
+    makes-done join (c .before .before .before .before .before .before .before .before .pre)
+    (c .before .before .before .before .before .join-lacking .ensures) (c .before .before .before .before .if1 .left)
+    (c .before .before .write-joined .ensures)
 
 pub join-checked-spec : {M : Type 1} → statement M
 join-checked-spec =

@@ -38,7 +38,14 @@ count-of-requires : tie.Need-count-of-requires Inv-loop μ-loop
 count-of-requires c κs = search needs
 
 add-count : tie.Need-add-count Inv-loop μ-loop
-add-count c = omega (arith, counting-fits (c .before .before .before .before .before .loop .inv .1) (join-piece _ _ _ (c .before .before .before .before .loop-test .taken) (c .before .before .step .ensures)) (c .count-of .ensures), join-most (c .before .before .before .before .before .before .before .before .args .text .now), c .before .before .before .before .before .before .before .before .pre)
+add-count c =
+    omega (
+      arith,
+      counting-fits (c .before .before .before .before .before .loop .inv .1)
+          (join-piece _ _ _ (c .before .before .before .before .loop-test .taken) (c .before .before .step .ensures)) (c .count-of .ensures),
+      join-most (c .before .before .before .before .before .before .before .before .args .text .now),
+      c .before .before .before .before .before .before .before .before .pre,
+    )
 
 add-i : tie.Need-add-i Inv-loop μ-loop
 add-i c = search needs
@@ -47,7 +54,11 @@ loop-less : tie.Need-loop-less Inv-loop μ-loop
 loop-less c = search needs
 
 loop-again : tie.Need-loop-again Inv-loop μ-loop
-loop-again c = (search needs, counting-more (c .before .before .before .before .before .loop .inv .1) (join-piece _ _ _ (c .before .before .before .before .loop-test .taken) (c .before .before .step .ensures)) (c .count-of .ensures))
+loop-again c = (
+  search needs,
+  counting-more (c .before .before .before .before .before .loop .inv .1)
+      (join-piece _ _ _ (c .before .before .before .before .loop-test .taken) (c .before .before .step .ensures)) (c .count-of .ensures),
+)
 
 flush-requires : tie.Need-flush-requires Inv-loop μ-loop
 flush-requires c κs = search needs
@@ -56,10 +67,19 @@ count-of-requires-2 : tie.Need-count-of-requires-2 Inv-loop μ-loop
 count-of-requires-2 c κs = search needs
 
 add-result : tie.Need-add-result Inv-loop μ-loop
-add-result c = omega (arith, counting-last (c .before .before .before .loop .inv .1) (join-last _ _ _ (c .before .before .loop-test .left) (c .before .flush .ensures)) (c .count-of2 .ensures), join-most (c .before .before .before .before .before .before .args .text .now), c .before .before .before .before .before .before .pre)
+add-result c =
+    omega (
+      arith,
+      counting-last (c .before .before .before .loop .inv .1) (join-last _ _ _ (c .before .before .loop-test .left) (c .before .flush .ensures))
+          (c .count-of2 .ensures),
+      join-most (c .before .before .before .before .before .before .args .text .now),
+      c .before .before .before .before .before .before .pre,
+    )
 
 returns : tie.Need-returns Inv-loop μ-loop
-returns c = counting-last (c .before .before .before .loop .inv .1) (join-last _ _ _ (c .before .before .loop-test .left) (c .before .flush .ensures)) (c .count-of2 .ensures)
+returns c =
+    counting-last (c .before .before .before .loop .inv .1) (join-last _ _ _ (c .before .before .loop-test .left) (c .before .flush .ensures))
+    (c .count-of2 .ensures)
 
 pub joined-count-spec : {M : Type 1} → statement M
 joined-count-spec =

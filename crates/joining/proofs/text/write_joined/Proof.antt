@@ -34,7 +34,10 @@ step-requires : tie.Need-step-requires Inv-loop μ-loop
 step-requires c κs = search needs
 
 put-requires : tie.Need-put-requires Inv-loop μ-loop
-put-requires c κs = filling-room (c .before .before .before .before .before .before .before .before .before .pre) (c .before .before .before .before .before .loop .inv .1) (join-piece _ _ _ (c .before .before .before .before .loop-test .taken) (c .before .before .step .ensures))
+put-requires c κs =
+    filling-room (c .before .before .before .before .before .before .before .before .before .pre)
+    (c .before .before .before .before .before .loop .inv .1)
+    (join-piece _ _ _ (c .before .before .before .before .loop-test .taken) (c .before .before .step .ensures))
 
 add-read : tie.Need-add-read Inv-loop μ-loop
 add-read c = search needs
@@ -43,19 +46,33 @@ loop-less : tie.Need-loop-less Inv-loop μ-loop
 loop-less c = search needs
 
 loop-again : tie.Need-loop-again Inv-loop μ-loop
-loop-again c = (search needs, filling-more (c .before .before .before .before .before .before .before .before .before .before .before .before .pre) (c .before .before .before .before .before .before .before .before .loop .inv .1) (join-piece _ _ _ (c .before .before .before .before .before .before .before .loop-test .taken) (c .before .before .before .before .before .step .ensures)) (c .before .before .put .ensures))
+loop-again c = (
+  search needs,
+  filling-more (c .before .before .before .before .before .before .before .before .before .before .before .before .pre)
+      (c .before .before .before .before .before .before .before .before .loop .inv .1)
+      (join-piece _ _ _ (c .before .before .before .before .before .before .before .loop-test .taken)
+      (c .before .before .before .before .before .step .ensures)) (c .before .before .put .ensures),
+)
 
 flush-requires : tie.Need-flush-requires Inv-loop μ-loop
 flush-requires c κs = search needs
 
 put-requires-2 : tie.Need-put-requires-2 Inv-loop μ-loop
-put-requires-2 c κs = filling-room (c .before .before .before .before .before .before .before .pre) (c .before .before .before .loop .inv .1) (join-last _ _ _ (c .before .before .loop-test .left) (c .before .flush .ensures))
+put-requires-2 c κs =
+    filling-room (c .before .before .before .before .before .before .before .pre) (c .before .before .before .loop .inv .1)
+    (join-last _ _ _ (c .before .before .loop-test .left) (c .before .flush .ensures))
 
 same-length : tie.Need-same-length Inv-loop μ-loop
-same-length c = c .before .before .put2 .kept .1 .0 ∙ filling-length (c .before .before .before .before .before .before .before .before .before .before .pre) (c .before .before .before .before .before .before .loop .inv .1)
+same-length c =
+    c .before .before .put2 .kept .1 .0 ∙ filling-length (c .before .before .before .before .before .before .before .before .before .before .pre)
+    (c .before .before .before .before .before .before .loop .inv .1)
 
 returns : tie.Need-returns Inv-loop μ-loop
-returns c = filling-last (c .before .before .before .before .before .before .before .before .before .before .pre) (c .before .before .before .before .before .before .loop .inv .1) (join-last _ _ _ (c .before .before .before .before .before .loop-test .left) (c .before .before .before .before .flush .ensures)) (c .before .before .put2 .ensures)
+returns c =
+    filling-last (c .before .before .before .before .before .before .before .before .before .before .pre)
+    (c .before .before .before .before .before .before .loop .inv .1)
+    (join-last _ _ _ (c .before .before .before .before .before .loop-test .left) (c .before .before .before .before .flush .ensures))
+    (c .before .before .put2 .ensures)
 
 pub write-joined-spec : {M : Type 1} → statement M
 write-joined-spec =

@@ -94,7 +94,9 @@ take-apart-slice-write-out-2 : (t : ℕ) → take-apart-lts.Need-slice-write-out
   take-apart-below t,
   take-apart.Post,
 ) (take-apart-at t) take-apart.Post
-take-apart-slice-write-out-2 t c = room-one (c .before .before .before .before .before .before .pre .1) (parts-one _ _ (c .before .before .before .parts-of .ensures) (c .before .parts .given .1))
+take-apart-slice-write-out-2 t c =
+    room-one (c .before .before .before .before .before .before .pre .1)
+    (parts-one _ _ (c .before .before .before .parts-of .ensures) (c .before .parts .given .1))
 
 take-apart-add-result-2 : (t : ℕ) → take-apart-lts.Need-add-result-2 (
   parts-of-reads.Asked,
@@ -126,7 +128,12 @@ take-apart-take-apart-requires : (t : ℕ) → take-apart-lts.Need-take-apart-re
   take-apart-below t,
   take-apart.Post,
 ) (take-apart-at t) take-apart.Post
-take-apart-take-apart-requires t c κs = (omega arith, room-first (c .before .before .before .before .before .before .before .pre .1) (parts-two _ _ (c .before .before .before .before .before .if1 .left) (c .before .before .before .before .parts-of .ensures) (c .before .before .parts2 .given .1)))
+take-apart-take-apart-requires t c κs = (
+  omega arith,
+  room-first (c .before .before .before .before .before .before .before .pre .1)
+      (parts-two _ _ (c .before .before .before .before .before .if1 .left) (c .before .before .before .before .parts-of .ensures)
+      (c .before .before .parts2 .given .1)),
+)
 
 take-apart-sub-take-apart-2 : (t : ℕ) → take-apart-lts.Need-sub-take-apart-2 (
   parts-of-reads.Asked,
@@ -142,7 +149,17 @@ take-apart-take-apart-requires-2 : (t : ℕ) → take-apart-lts.Need-take-apart-
   take-apart-below t,
   take-apart.Post,
 ) (take-apart-at t) take-apart.Post
-take-apart-take-apart-requires-2 t c κs = (omega (arith, c .before .before .before .before .before .before .before .before .before .before .before .pre .0, c .before .before .before .before .before .before .before .before .before .if1 .left), room-second (c .before .before .before .before .before .before .before .before .before .before .before .pre .1) (parts-two _ _ (c .before .before .before .before .before .before .before .before .before .if1 .left) (c .before .before .before .before .before .before .before .before .parts-of .ensures) (c .before .before .before .before .before .before .parts2 .given .1)) (c .before .before .before .take-apart .ensures))
+take-apart-take-apart-requires-2 t c κs = (
+  omega (
+    arith,
+    c .before .before .before .before .before .before .before .before .before .before .before .pre .0,
+    c .before .before .before .before .before .before .before .before .before .if1 .left,
+  ),
+  room-second (c .before .before .before .before .before .before .before .before .before .before .before .pre .1)
+      (parts-two _ _ (c .before .before .before .before .before .before .before .before .before .if1 .left)
+      (c .before .before .before .before .before .before .before .before .parts-of .ensures)
+      (c .before .before .before .before .before .before .parts2 .given .1)) (c .before .before .before .take-apart .ensures),
+)
 
 take-apart-same-length-2 : (t : ℕ) → take-apart-lts.Need-same-length-2 (
   parts-of-reads.Asked,
@@ -174,7 +191,12 @@ take-apart-returns-3 : (t : ℕ) → take-apart-lts.Need-returns-3 (
   take-apart-below t,
   take-apart.Post,
 ) (take-apart-at t) take-apart.Post
-take-apart-returns-3 t c = wrote-two (parts-two _ _ (c .before .before .before .before .before .before .before .before .before .before .before .before .if1 .left) (c .before .before .before .before .before .before .before .before .before .before .before .parts-of .ensures) (c .before .before .before .before .before .before .before .before .before .parts2 .given .1)) (c .before .before .before .before .before .before .take-apart .ensures) (c .before .before .take-apart2 .ensures)
+take-apart-returns-3 t c =
+    wrote-two
+    (parts-two _ _ (c .before .before .before .before .before .before .before .before .before .before .before .before .if1 .left)
+    (c .before .before .before .before .before .before .before .before .before .before .before .parts-of .ensures)
+    (c .before .before .before .before .before .before .before .before .before .parts2 .given .1))
+    (c .before .before .before .before .before .before .take-apart .ensures) (c .before .before .take-apart2 .ensures)
 
 pub +take-apart-spec : {M : Type 1} → statement M
 +take-apart-spec = close μ-take-apart λ t. take-apart-lts.spec (

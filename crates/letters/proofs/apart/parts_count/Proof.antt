@@ -30,7 +30,13 @@ count-of-requires : tie.Need-count-of-requires Inv-loop μ-loop
 count-of-requires c κs = search needs
 
 add-count : tie.Need-add-count Inv-loop μ-loop
-add-count c = omega (arith, counting-fits (c .before .before .before .loop .inv .1) (parts-piece _ _ (c .before .before .loop-test .taken)) (c .count-of .ensures), full-most (c .before .before .before .before .before .args .text .now), c .before .before .before .before .before .pre)
+add-count c =
+    omega (
+      arith,
+      counting-fits (c .before .before .before .loop .inv .1) (parts-piece _ _ (c .before .before .loop-test .taken)) (c .count-of .ensures),
+      full-most (c .before .before .before .before .before .args .text .now),
+      c .before .before .before .before .before .pre,
+    )
 
 add-i : tie.Need-add-i Inv-loop μ-loop
 add-i c = search needs
@@ -39,7 +45,10 @@ loop-less : tie.Need-loop-less Inv-loop μ-loop
 loop-less c = search needs
 
 loop-again : tie.Need-loop-again Inv-loop μ-loop
-loop-again c = (search needs, counting-more (c .before .before .before .loop .inv .1) (parts-piece _ _ (c .before .before .loop-test .taken)) (c .count-of .ensures))
+loop-again c = (
+  search needs,
+  counting-more (c .before .before .before .loop .inv .1) (parts-piece _ _ (c .before .before .loop-test .taken)) (c .count-of .ensures),
+)
 
 returns : tie.Need-returns Inv-loop μ-loop
 returns c = counting-all (c .before .loop .inv .1) (parts-end _ _ (c .loop-test .left))

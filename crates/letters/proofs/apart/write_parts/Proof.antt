@@ -26,7 +26,9 @@ shared-slice-read-take-apart : tie.Need-shared-slice-read-take-apart Inv-loop μ
 shared-slice-read-take-apart c = search needs
 
 take-apart-requires : tie.Need-take-apart-requires Inv-loop μ-loop
-take-apart-requires c κs = filling-room (c .before .before .before .before .before .before .pre) (c .before .before .before .loop .inv .1) (parts-piece _ _ (c .before .before .loop-test .taken))
+take-apart-requires c κs =
+    filling-room (c .before .before .before .before .before .before .pre) (c .before .before .before .loop .inv .1)
+    (parts-piece _ _ (c .before .before .loop-test .taken))
 
 add-read : tie.Need-add-read Inv-loop μ-loop
 add-read c = search needs
@@ -35,7 +37,12 @@ loop-less : tie.Need-loop-less Inv-loop μ-loop
 loop-less c = search needs
 
 loop-again : tie.Need-loop-again Inv-loop μ-loop
-loop-again c = (search needs, filling-more (c .before .before .before .before .before .before .before .before .before .pre) (c .before .before .before .before .before .before .loop .inv .1) (parts-piece _ _ (c .before .before .before .before .before .loop-test .taken)) (c .before .before .take-apart .ensures))
+loop-again c = (
+  search needs,
+  filling-more (c .before .before .before .before .before .before .before .before .before .pre)
+      (c .before .before .before .before .before .before .loop .inv .1)
+      (parts-piece _ _ (c .before .before .before .before .before .loop-test .taken)) (c .before .before .take-apart .ensures),
+)
 
 same-length : tie.Need-same-length Inv-loop μ-loop
 same-length c = filling-length (c .before .before .before .before .pre) (c .before .loop .inv .1)

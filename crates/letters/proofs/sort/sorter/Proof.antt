@@ -16,7 +16,8 @@ sort-of-requires : tie.Need-sort-of-requires
 sort-of-requires c κs = search needs
 
 returns-2 : tie.Need-returns-2
-returns-2 c = done-code (sortOf (c .before .before .before .args .code)) _ (c .before .before .is-bad .ensures) (c .before .if1 .left) (c .sort-of .ensures)
+returns-2 c =
+    done-code (sortOf (c .before .before .before .args .code)) _ (c .before .before .is-bad .ensures) (c .before .if1 .left) (c .sort-of .ensures)
 
 pub sorter-spec : {M : Type 1} → statement M
 sorter-spec = tie.close (tie.spec is-bad-requires returns sort-of-requires returns-2)

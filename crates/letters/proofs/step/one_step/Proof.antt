@@ -16,7 +16,8 @@ parts-of-requires : tie.Need-parts-of-requires
 parts-of-requires c κs = search needs
 
 returns-2 : tie.Need-returns-2
-returns-2 c = done-code (oneStep (c .before .before .before .args .code)) _ (c .before .before .is-bad .ensures) (c .before .if1 .left) (c .parts-of .ensures)
+returns-2 c =
+    done-code (oneStep (c .before .before .before .args .code)) _ (c .before .before .is-bad .ensures) (c .before .if1 .left) (c .parts-of .ensures)
 
 pub one-step-spec : {M : Type 1} → statement M
 one-step-spec = tie.close (tie.spec is-bad-requires returns parts-of-requires returns-2)

@@ -15,7 +15,8 @@ parted-requires : tie.Need-parted-requires
 parted-requires c κs = search needs
 
 returns : tie.Need-returns
-returns c = stepped-apart _ _ (c .before .before .before .met .ensures) (c .before .before .if1 .taken) (c .before .opened .ensures) (c .parted .ensures)
+returns c =
+    stepped-apart _ _ (c .before .before .before .met .ensures) (c .before .before .if1 .taken) (c .before .opened .ensures) (c .parted .ensures)
 
 opened-requires-2 : tie.Need-opened-requires-2
 opened-requires-2 c κs = search needs
@@ -24,7 +25,8 @@ united-requires : tie.Need-united-requires
 united-requires c κs = search needs
 
 returns-2 : tie.Need-returns-2
-returns-2 c = stepped-joined _ _ (c .before .before .before .met .ensures) (c .before .before .if1 .left) (c .before .opened2 .ensures) (c .united .ensures)
+returns-2 c =
+    stepped-joined _ _ (c .before .before .before .met .ensures) (c .before .before .if1 .left) (c .before .opened2 .ensures) (c .united .ensures)
 
 pub step-spec : {M : Type 1} → statement M
 step-spec =

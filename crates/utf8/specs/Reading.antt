@@ -1,0 +1,57 @@
+-- Reading UTF-8, as the code answers it: what begins at an index, and the contract of reading a whole text (document 01, 'Bytes', 'Refusal numbers').
+-- Not here: what the bytes read as (specs/Utf8). Assumes nothing.
+use mathlib.Core.Path.{_≡_}
+use mathlib.Core.Option.{Option}
+use mathlib.Core.List.{List, [], _∷_}
+use Prim.Native.Nat.{ℕ, _≤_, _<_}
+use lib.ListN.{length, getD}
+use Rattle.laws.specs.Pieces.{Piece, good, ill}
+use Rattle.laws.specs.Writing.{Fronts}
+use Rattle.answers.specs.Checks.{takesBytes}
+use Rattle.answers.specs.Verdicts.{Verdict, done, Fills}
+use Rattle.answers.specs.Answers.{refusedBy}
+use Rattle.utf8.specs.Table37.{Bytes, rowOf}
+use Rattle.utf8.specs.Utf8.{valueOf, readText, illText}
+use Rattle.utf8.specs.declared.read.Taken.{Taken}
+use Rattle.utf8.specs.declared.read.Counted.{Counted}
+use Rattle.utf8.specs.declared.read.Read.{Read}
+use Rattle.utf8.specs.declared.read.Read.the-variants.{Done, Refused}
+
+-- a code point of so many bytes, and an ill-formed subpart of so many
+abbrev pub goodOf : ℕ → ℕ → Taken
+goodOf code size = record { code = code; size = size; ill = 0 }
+
+abbrev pub illOf : ℕ → Taken
+illOf size = record { code = 0xFFFD; size = size; ill = 1 }
+
+-- the first of a text's pieces
+abbrev pub takenFrom : List (Piece ℕ) → Taken
+takenFrom [] = goodOf 0 0
+takenFrom (good u ∷ P) = goodOf (valueOf u) (length u)
+takenFrom (ill u ∷ P) = illOf (length u)
+
+-- at an index stands the first byte a, of the row `row`, between lo and hi: what the private functions of a row ask
+pub record Begins (text : List ℕ) (at a : ℕ) (row : Option (List Bytes)) (lo hi : ℕ) : Type 0 where
+  pub inside : at < length text
+  pub is : a ≡ getD text at 0
+  pub picks : rowOf a ≡ row
+  pub least : lo ≤ a
+  pub most : a ≤ hi
+
+-- what was read fills the front of the buffer, and what was counted is its length and the number of ill-formed subparts
+pub record ReadFronts (text out : List ℕ) (r : Counted) (out′ : List ℕ) : Type 0 where
+  pub fronts : Fronts (readText text) out (r .length) out′
+  pub ills : r .ills ≡ illText text
+
+-- the answer read as a verdict: the length, and the number of ill-formed subparts
+abbrev pub readAs : Read → Verdict Counted
+readAs (Done counted) = done counted
+readAs (Refused r) = refusedBy r
+
+-- what reading a text counts
+abbrev pub countedOf : List ℕ → Counted
+countedOf text = record { length = length (readText text); ills = illText text }
+
+-- THE CONTRACT of reading: 1, then 3
+pub record Reads (text out : List ℕ) (r : Read) (out′ : List ℕ) : Type 0 where
+  pub fills : Fills (takesBytes text) (readText text) (countedOf text) out (readAs r) out′

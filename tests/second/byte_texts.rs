@@ -1,0 +1,272 @@
+// Mean bytes for the kinds that read UTF-8: boundaries, the Standard's examples, damaged texts.
+// It makes no whole calls and decides no answers.
+
+use crate::random::Random;
+use crate::texts;
+use crate::utf8::{written, written_code, TABLE_3_7};
+
+/// The ends of the ranges of table 3-7 and the bytes next to them.
+pub const BOUNDARY_BYTES: [u8; 24] = [
+    0x00, 0x7F, 0x80, 0x8F, 0x90, 0x9F, 0xA0, 0xBF, 0xC0, 0xC1, 0xC2, 0xDF, 0xE0, 0xE1, 0xEC, 0xED,
+    0xEE, 0xEF, 0xF0, 0xF1, 0xF3, 0xF4, 0xF5, 0xFF,
+];
+
+/// Begins and continues no other sequence, so pieces divided by it do not touch.
+const WALL: u8 = 0x41;
+
+/// Bytes, what they are read as, and how many of these are ill-formed subparts.
+pub type Example = (&'static [u8], &'static [u32], u32);
+
+/// The Standard's tables 3-8 to 3-11 (overlong forms, surrogates, other bytes, cut sequences), an
+/// older edition's table, examples from the text around D92 and D93b, and the rules' case 12.
+#[rustfmt::skip]
+pub const EXAMPLES: [Example; 11] = [
+    (&[0xC0, 0xAF, 0xE0, 0x80, 0xBF, 0xF0, 0x81, 0x82, 0x41],
+     &[0xFFFD, 0xFFFD, 0xFFFD, 0xFFFD, 0xFFFD, 0xFFFD, 0xFFFD, 0xFFFD, 0x41], 8),
+    (&[0xED, 0xA0, 0x80, 0xED, 0xBF, 0xBF, 0xED, 0xAF, 0x41],
+     &[0xFFFD, 0xFFFD, 0xFFFD, 0xFFFD, 0xFFFD, 0xFFFD, 0xFFFD, 0xFFFD, 0x41], 8),
+    (&[0xF4, 0x91, 0x92, 0x93, 0xFF, 0x41, 0x80, 0xBF, 0x42],
+     &[0xFFFD, 0xFFFD, 0xFFFD, 0xFFFD, 0xFFFD, 0x41, 0xFFFD, 0xFFFD, 0x42], 7),
+    (&[0xE1, 0x80, 0xE2, 0xF0, 0x91, 0x92, 0xF1, 0xBF, 0x41],
+     &[0xFFFD, 0xFFFD, 0xFFFD, 0xFFFD, 0x41], 4),
+    (&[0x61, 0xF1, 0x80, 0x80, 0xE1, 0x80, 0xC2, 0x62, 0x80, 0x63, 0x80, 0xBF, 0x64],
+     &[0x61, 0xFFFD, 0xFFFD, 0xFFFD, 0x62, 0xFFFD, 0x63, 0xFFFD, 0xFFFD, 0x64], 6),
+    (&[0x41, 0xC0, 0xAF, 0x41, 0xF4, 0x80, 0x80, 0x41],
+     &[0x41, 0xFFFD, 0xFFFD, 0x41, 0xFFFD, 0x41], 3),
+    (&[0x41, 0xC2, 0xC3, 0xB1, 0x42], &[0x41, 0xFFFD, 0xF1, 0x42], 1),
+    (&[0xE0, 0x9F, 0x80], &[0xFFFD, 0xFFFD, 0xFFFD], 3),
+    (&[0xF4, 0x80, 0x83, 0x92], &[0x10_00D2], 0),
+    (&[0x4D, 0xD0, 0xB0, 0xE4, 0xBA, 0x8C, 0xF0, 0x90, 0x8C, 0x82],
+     &[0x4D, 0x430, 0x4E8C, 0x1_0302], 0),
+    (&[0xE1, 0x84, 0x80, 0xE1, 0x20, 0xA1, 0xE1, 0x86, 0xA8],
+     &[0x1100, 0xFFFD, 0x20, 0xFFFD, 0x11A8], 2),
+];
+
+/// One character of each row of table 3-7, with FEFF and a true FFFD among them.
+const MIXED_TEXT: [u32; 13] = [
+    0x41, 0x80, 0x7FF, 0x800, 0x1100, 0xAC01, 0xD7FF, 0xFEFF, 0xFFFD, 0x1_0000, 0x4_F123,
+    0x10_FFFF, 0x7A,
+];
+
+/// Each byte alone.
+pub fn single_bytes() -> Vec<Vec<u8>> {
+    (0..=0xFF).map(|byte| vec![byte]).collect()
+}
+
+/// All pairs of bytes, those of boundaries first.
+pub fn byte_pairs() -> Vec<Vec<u8>> {
+    let mut pairs = Vec::new();
+    for first in 0..=0xFF {
+        pairs.extend((0..=0xFF).map(|second| vec![first, second]));
+    }
+    pairs.sort_by_key(|pair| pair.iter().any(|byte| !BOUNDARY_BYTES.contains(byte)));
+    pairs
+}
+
+/// Each sequence with each of the bytes behind it.
+fn longer(sequences: &[Vec<u8>], bytes: &[u8]) -> Vec<Vec<u8>> {
+    let mut longer = Vec::with_capacity(sequences.len() * bytes.len());
+    for sequence in sequences {
+        longer.extend(bytes.iter().map(|&byte| [&sequence[..], &[byte]].concat()));
+    }
+    longer
+}
+
+/// All sequences of boundary bytes of the given length.
+pub fn boundary_sequences(length: usize) -> Vec<Vec<u8>> {
+    let mut sequences = vec![Vec::new()];
+    for _ in 0..length {
+        sequences = longer(&sequences, &BOUNDARY_BYTES);
+    }
+    sequences
+}
+
+pub fn with_wall(mut piece: Vec<u8>) -> Vec<u8> {
+    piece.push(WALL);
+    piece
+}
+
+/// Each scalar value as UTF-8.
+pub fn every_written() -> Vec<Vec<u8>> {
+    let values = texts::scalar_values();
+    values.into_iter().map(written_code).collect()
+}
+
+/// Each cut sequence there is: every proper beginning of a well-formed one.
+pub fn every_cut_sequence() -> Vec<Vec<u8>> {
+    let mut cut = Vec::new();
+    for row in &TABLE_3_7 {
+        let mut beginnings = vec![Vec::new()];
+        for &(first, last) in &row.bytes[..row.bytes.len() - 1] {
+            let bytes: Vec<u8> = (first..=last).collect();
+            beginnings = longer(&beginnings, &bytes);
+            cut.extend(beginnings.clone());
+        }
+    }
+    cut
+}
+
+/// The bytes with those in the places given replaced.
+fn with(bytes: &[u8], places: std::ops::Range<usize>, replacing: &[u8]) -> Vec<u8> {
+    let mut bytes = bytes.to_vec();
+    bytes.splice(places, replacing.iter().copied());
+    bytes
+}
+
+/// Characters that a program may be tempted to treat in a way of its own, in front, within and at
+/// the end; none of them is ill-formed.
+pub fn tempting_texts() -> Vec<Vec<u8>> {
+    let codes = texts::TEMPTING_CODES.iter();
+    codes
+        .map(|&code| written(&[code, 0xAC01, code, code]))
+        .collect()
+}
+
+/// The mixed text cut behind and before each byte, with each byte lost, and each doubled.
+pub fn damaged_texts() -> Vec<Vec<u8>> {
+    let bytes = written(&MIXED_TEXT);
+    let mut texts = vec![bytes.clone()];
+    for (place, &byte) in bytes.iter().enumerate() {
+        texts.push(with(&bytes, place..place + 1, &[]));
+        texts.push(with(&bytes, place..place + 1, &[byte, byte]));
+        texts.push(bytes[..place].to_vec());
+        texts.push(bytes[place..].to_vec());
+    }
+    texts
+}
+
+/// The mixed text with each byte changed to a boundary byte, and with one put in before it.
+pub fn changed_texts() -> Vec<Vec<u8>> {
+    let bytes = written(&MIXED_TEXT);
+    let mut texts = Vec::new();
+    for other in BOUNDARY_BYTES {
+        for place in 0..bytes.len() {
+            texts.push(with(&bytes, place..place + 1, &[other]));
+            texts.push(with(&bytes, place..place, &[other]));
+        }
+    }
+    texts
+}
+
+/// Each of these, over and over, is a long text: one to four bytes to a character, and bytes that
+/// read as one FFFD each, two to one and three to one.
+pub const REPEATED: [&[u8]; 9] = [
+    &[0x41],
+    &[0xC3, 0xB1],
+    &[0xEA, 0xB0, 0x81],
+    &[0xF0, 0x9F, 0x9A, 0xA2],
+    &[0xEF, 0xBF, 0xBD],
+    &[0x80],
+    &[0xE1, 0x80],
+    &[0xF1, 0x80, 0x80],
+    &[0xE1, 0x84, 0x80, 0xE1, 0x20, 0xA1, 0xF4, 0x90],
+];
+
+pub fn repeated(pattern: &[u8], length: usize) -> Vec<u8> {
+    pattern.iter().copied().cycle().take(length).collect()
+}
+
+/// A few bytes at each place of a text that else passes through: a program that takes several
+/// bytes at a time must not lose what lies across its blocks.
+pub fn at_each_place() -> Vec<Vec<u8>> {
+    let mut texts = Vec::new();
+    let pieces: [&[u8]; 6] = [
+        &[0xEA, 0xB0, 0x81],
+        &[0xF0, 0x9F, 0x9A, 0xA2],
+        &[0x80],
+        &[0xE1, 0x80],
+        &[0xF1, 0x80, 0x80, 0xC3, 0xB1],
+        &[0xEF, 0xBF, 0xBD],
+    ];
+    for piece in pieces {
+        texts.extend((0..=66).map(|place| with(&[0x41; 66], place..place, piece)));
+    }
+    texts
+}
+
+/// A cut sequence, as a program meets it that stops one byte late or early.
+fn cut_sequence(random: &mut Random) -> Vec<u8> {
+    let mut sequence =
+        written_code(random.pick(&[0x80, 0x800, 0xAC01, 0xD7FF, 0x1_0000, 0x10_FFFF]));
+    let length = 1 + random.below(sequence.len() - 1);
+    sequence.truncate(length);
+    sequence
+}
+
+/// A lead byte with a second byte that only nearly fits it, then one or two that would.
+fn nearly_well_formed(random: &mut Random) -> Vec<u8> {
+    let (lead, second) = random.pick(&[
+        (0xC0, 0x80),
+        (0xC1, 0xBF),
+        (0xE0, 0x80),
+        (0xE0, 0x9F),
+        (0xED, 0xA0),
+        (0xED, 0xBF),
+        (0xF0, 0x80),
+        (0xF0, 0x8F),
+        (0xF4, 0x90),
+        (0xF4, 0xBF),
+        (0xF5, 0x80),
+        (0xF8, 0x88),
+    ]);
+    let mut bytes = vec![lead, second];
+    bytes.extend(vec![0x80; random.below(3)]);
+    bytes
+}
+
+/// A few bytes, well-formed or nearly so.
+fn piece(random: &mut Random) -> Vec<u8> {
+    match random.below(8) {
+        0 => vec![random.pick(&BOUNDARY_BYTES)],
+        1 | 2 => cut_sequence(random),
+        3 => nearly_well_formed(random),
+        4 => vec![random.between(0x80, 0xBF) as u8],
+        5 => written_code(random.pick(&[0xFFFD, 0xFEFF, 0xD7FF, 0xE000, 0x10_FFFF, 0x1_0000])),
+        6 => written_code(random.between(0x20, 0x7E)),
+        _ => written_code(texts::good_code(random)),
+    }
+}
+
+/// Well-formed bytes of a good text, in which then a few are changed, lost or put in.
+fn damaged(random: &mut Random, length: usize) -> Vec<u8> {
+    let mut bytes = written(&texts::good_text(random, length));
+    for _ in 0..random.below(4) {
+        if bytes.is_empty() {
+            return bytes;
+        }
+        let place = random.below(bytes.len());
+        let byte = random.pick(&BOUNDARY_BYTES);
+        bytes = match random.below(4) {
+            0 => with(&bytes, place..place + 1, &[]),
+            1 => with(&bytes, place..place, &[byte]),
+            2 => with(&bytes, place..place + 1, &[byte]),
+            _ => with(
+                &bytes,
+                place..place + 1,
+                &[bytes[place] ^ (1 << random.below(8))],
+            ),
+        };
+    }
+    bytes
+}
+
+/// Bytes of the given length, of one of several styles. Well-formed ones are cut to it, so that
+/// they may end within a sequence.
+pub fn bytes(random: &mut Random, length: usize) -> Vec<u8> {
+    let style = random.below(8);
+    let mut bytes = match style {
+        0 => (0..length).map(|_| random.pick(&BOUNDARY_BYTES)).collect(),
+        1 => (0..length).map(|_| random.number() as u8).collect(),
+        2 => (0..length)
+            .map(|_| random.between(0x80, 0xFF) as u8)
+            .collect(),
+        3 => written(&texts::good_text(random, length)),
+        4 | 5 => damaged(random, length),
+        _ => Vec::with_capacity(length + 4),
+    };
+    while bytes.len() < length {
+        bytes.extend(piece(random));
+    }
+    bytes.truncate(length);
+    bytes
+}
