@@ -2,7 +2,7 @@
 // It makes no whole calls and decides no answers.
 
 use crate::random::Random;
-use crate::texts;
+use crate::texts::{self, TextMaker};
 use crate::utf8::{written, written_code, TABLE_3_7};
 
 /// The ends of the ranges of table 3-7 and the bytes next to them.
@@ -43,7 +43,7 @@ pub const EXAMPLES: [Example; 11] = [
 ];
 
 /// One character of each row of table 3-7, with FEFF and a true FFFD among them.
-const MIXED_TEXT: [u32; 13] = [
+pub const MIXED_TEXT: [u32; 13] = [
     0x41, 0x80, 0x7FF, 0x800, 0x1100, 0xAC01, 0xD7FF, 0xFEFF, 0xFFFD, 0x1_0000, 0x4_F123,
     0x10_FFFF, 0x7A,
 ];
@@ -63,22 +63,28 @@ pub fn byte_pairs() -> Vec<Vec<u8>> {
     pairs
 }
 
-/// Each sequence with each of the bytes behind it.
-fn longer(sequences: &[Vec<u8>], bytes: &[u8]) -> Vec<Vec<u8>> {
-    let mut longer = Vec::with_capacity(sequences.len() * bytes.len());
+/// Each sequence with each of the pieces behind it.
+fn longer<Piece: AsRef<[u8]>>(sequences: &[Vec<u8>], pieces: &[Piece]) -> Vec<Vec<u8>> {
+    let mut longer = Vec::with_capacity(sequences.len() * pieces.len());
     for sequence in sequences {
-        longer.extend(bytes.iter().map(|&byte| [&sequence[..], &[byte]].concat()));
+        let pieces = pieces.iter().map(AsRef::as_ref);
+        longer.extend(pieces.map(|piece| [sequence, piece].concat()));
     }
     longer
 }
 
-/// All sequences of boundary bytes of the given length.
-pub fn boundary_sequences(length: usize) -> Vec<Vec<u8>> {
+/// All sequences of so many of the pieces.
+pub fn sequences<Piece: AsRef<[u8]>>(pieces: &[Piece], count: usize) -> Vec<Vec<u8>> {
     let mut sequences = vec![Vec::new()];
-    for _ in 0..length {
-        sequences = longer(&sequences, &BOUNDARY_BYTES);
+    for _ in 0..count {
+        sequences = longer(&sequences, pieces);
     }
     sequences
+}
+
+/// All sequences of boundary bytes of the given length.
+pub fn boundary_sequences(length: usize) -> Vec<Vec<u8>> {
+    sequences(&BOUNDARY_BYTES.map(|byte| [byte]), length)
 }
 
 pub fn with_wall(mut piece: Vec<u8>) -> Vec<u8> {
@@ -98,7 +104,7 @@ pub fn every_cut_sequence() -> Vec<Vec<u8>> {
     for row in &TABLE_3_7 {
         let mut beginnings = vec![Vec::new()];
         for &(first, last) in &row.bytes[..row.bytes.len() - 1] {
-            let bytes: Vec<u8> = (first..=last).collect();
+            let bytes: Vec<[u8; 1]> = (first..=last).map(|byte| [byte]).collect();
             beginnings = longer(&beginnings, &bytes);
             cut.extend(beginnings.clone());
         }
@@ -107,7 +113,7 @@ pub fn every_cut_sequence() -> Vec<Vec<u8>> {
 }
 
 /// The bytes with those in the places given replaced.
-fn with(bytes: &[u8], places: std::ops::Range<usize>, replacing: &[u8]) -> Vec<u8> {
+pub fn with(bytes: &[u8], places: std::ops::Range<usize>, replacing: &[u8]) -> Vec<u8> {
     let mut bytes = bytes.to_vec();
     bytes.splice(places, replacing.iter().copied());
     bytes
@@ -122,9 +128,9 @@ pub fn tempting_texts() -> Vec<Vec<u8>> {
         .collect()
 }
 
-/// The mixed text cut behind and before each byte, with each byte lost, and each doubled.
-pub fn damaged_texts() -> Vec<Vec<u8>> {
-    let bytes = written(&MIXED_TEXT);
+/// The text cut behind and before each byte, with each byte lost, and each doubled.
+pub fn damaged_texts(text: &[u32]) -> Vec<Vec<u8>> {
+    let bytes = written(text);
     let mut texts = vec![bytes.clone()];
     for (place, &byte) in bytes.iter().enumerate() {
         texts.push(with(&bytes, place..place + 1, &[]));
@@ -135,9 +141,9 @@ pub fn damaged_texts() -> Vec<Vec<u8>> {
     texts
 }
 
-/// The mixed text with each byte changed to a boundary byte, and with one put in before it.
-pub fn changed_texts() -> Vec<Vec<u8>> {
-    let bytes = written(&MIXED_TEXT);
+/// The text with each byte changed to a boundary byte, and with one put in before it.
+pub fn changed_texts(text: &[u32]) -> Vec<Vec<u8>> {
+    let bytes = written(text);
     let mut texts = Vec::new();
     for other in BOUNDARY_BYTES {
         for place in 0..bytes.len() {
@@ -166,18 +172,20 @@ pub fn repeated(pattern: &[u8], length: usize) -> Vec<u8> {
     pattern.iter().copied().cycle().take(length).collect()
 }
 
+/// What is put at each place of a text.
+pub const PLACED: [&[u8]; 6] = [
+    &[0xEA, 0xB0, 0x81],
+    &[0xF0, 0x9F, 0x9A, 0xA2],
+    &[0x80],
+    &[0xE1, 0x80],
+    &[0xF1, 0x80, 0x80, 0xC3, 0xB1],
+    &[0xEF, 0xBF, 0xBD],
+];
+
 /// A few bytes at each place of a text that else passes through: a program that takes several
 /// bytes at a time must not lose what lies across its blocks.
-pub fn at_each_place() -> Vec<Vec<u8>> {
+pub fn at_each_place(pieces: &[&[u8]]) -> Vec<Vec<u8>> {
     let mut texts = Vec::new();
-    let pieces: [&[u8]; 6] = [
-        &[0xEA, 0xB0, 0x81],
-        &[0xF0, 0x9F, 0x9A, 0xA2],
-        &[0x80],
-        &[0xE1, 0x80],
-        &[0xF1, 0x80, 0x80, 0xC3, 0xB1],
-        &[0xEF, 0xBF, 0xBD],
-    ];
     for piece in pieces {
         texts.extend((0..=66).map(|place| with(&[0x41; 66], place..place, piece)));
     }
@@ -215,7 +223,7 @@ fn nearly_well_formed(random: &mut Random) -> Vec<u8> {
 }
 
 /// A few bytes, well-formed or nearly so.
-fn piece(random: &mut Random) -> Vec<u8> {
+pub fn piece(random: &mut Random) -> Vec<u8> {
     match random.below(8) {
         0 => vec![random.pick(&BOUNDARY_BYTES)],
         1 | 2 => cut_sequence(random),
@@ -227,9 +235,9 @@ fn piece(random: &mut Random) -> Vec<u8> {
     }
 }
 
-/// Well-formed bytes of a good text, in which then a few are changed, lost or put in.
-fn damaged(random: &mut Random, length: usize) -> Vec<u8> {
-    let mut bytes = written(&texts::good_text(random, length));
+/// The bytes of a good text, in which then a few are changed, lost or put in.
+pub fn damaged(random: &mut Random, good: TextMaker, length: usize) -> Vec<u8> {
+    let mut bytes = written(&good(random, length));
     for _ in 0..random.below(4) {
         if bytes.is_empty() {
             return bytes;
@@ -261,7 +269,7 @@ pub fn bytes(random: &mut Random, length: usize) -> Vec<u8> {
             .map(|_| random.between(0x80, 0xFF) as u8)
             .collect(),
         3 => written(&texts::good_text(random, length)),
-        4 | 5 => damaged(random, length),
+        4 | 5 => damaged(random, texts::good_text, length),
         _ => Vec::with_capacity(length + 4),
     };
     while bytes.len() < length {

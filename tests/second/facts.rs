@@ -6,9 +6,11 @@ use crate::joining_facts;
 use crate::kinds::{kind_of, Kind, TABLE};
 use crate::letter_facts;
 use crate::letters::{answer_of_text, Refusal};
+use crate::mending_facts;
 use crate::published;
 use crate::random::Random;
 use crate::reading_cases::READING;
+use crate::utf8::{answer_of_bytes, Made};
 use crate::utf8_facts;
 use crate::wire::{get_answer, get_call, put_answer, put_call, Call, Cursor, Shape, Width};
 use crate::writing_cases::WRITING;
@@ -34,6 +36,7 @@ pub fn all() -> Facts {
     letter_facts::state_all(&mut facts);
     joining_facts::state_all(&mut facts);
     utf8_facts::state_all(&mut facts);
+    mending_facts::state_all(&mut facts);
     files_of_normalization_tests(&mut facts);
     frames(&mut facts);
     frames_of_answers(&mut facts);
@@ -54,6 +57,17 @@ pub fn refusal(whole: fn(&[u32]) -> Vec<u32>, text: &[u32], room: u32) -> (u32, 
 
 /// A fact in words, a text, a room, and the number and place of the refusal.
 pub type TextCase<'text> = (&'static str, &'text [u32], u32, (u32, u32));
+
+/// The same of a call that reads bytes.
+pub fn refusal_of_bytes(whole: fn(&[u8]) -> Made, bytes: &[u8], room: u32) -> (u32, u32) {
+    match answer_of_bytes(bytes, room, whole) {
+        Err(Refusal { number, place }) => (number, place),
+        Ok(_) => (0, 0),
+    }
+}
+
+/// A fact in words, bytes, a room, and the number and place of the refusal.
+pub type ByteCase<'bytes> = (&'static str, &'bytes [u8], u32, (u32, u32));
 
 /// Only the right file is taken: a wrong one could have nothing in it to disagree with.
 fn files_of_normalization_tests(facts: &mut Facts) {
@@ -156,10 +170,7 @@ fn frames_of_images(facts: &mut Facts) {
     call.a.extend([1, 0xFF]);
     call.b.push(0xAC);
     let width = Width::Byte;
-    let plain = Shape {
-        lent: width,
-        ..Shape::BYTES_TO_CODES
-    };
+    let plain = Shape::BYTES;
     let image = Shape {
         image: true,
         returns_image: true,

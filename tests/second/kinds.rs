@@ -4,6 +4,7 @@
 use crate::cases;
 use crate::joining_cases;
 use crate::letters::Refusal;
+use crate::mending_cases;
 use crate::random::Random;
 use crate::reading_cases;
 use crate::texts;
@@ -43,6 +44,7 @@ pub const TABLE: &[&Kind] = &[
     &joining_cases::JOINING,
     &reading_cases::READING,
     &writing_cases::WRITING,
+    &mending_cases::MENDING,
 ];
 
 /// The largest kind number that the protocol gives out; the next one is unknown.

@@ -1,6 +1,7 @@
 // The second program: checks a proved Hangul library from outside, by definitions of its own.
 // It shares no code with the library and reads only what the program `calls` writes.
 
+mod byte_kinds;
 mod byte_texts;
 mod cases;
 mod compare;
@@ -11,6 +12,10 @@ mod joining_facts;
 mod kinds;
 mod letter_facts;
 mod letters;
+mod mending;
+mod mending_cases;
+mod mending_facts;
+mod mending_texts;
 mod published;
 mod random;
 mod reading_cases;

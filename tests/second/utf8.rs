@@ -142,10 +142,18 @@ pub fn written(text: &[u32]) -> Vec<u8> {
     text.iter().flat_map(|&code| written_code(code)).collect()
 }
 
-/// Reading refuses no byte: the checks are 1, of the bytes given, then 3, of the code points made.
-pub fn answer_of_reading(bytes: &[u8], room: u32) -> Result<Reading, Refusal> {
+/// What a call makes of bytes, as elements of its lent buffer.
+pub struct Made {
+    pub elements: Vec<u32>,
+    /// How many ill-formed subparts were read on the way.
+    pub ill_formed: u32,
+}
+
+/// The scheme of every call that reads bytes; `whole` is what it makes of them. It refuses no byte:
+/// the checks are 1, of the bytes given, then 3, of the elements made.
+pub fn answer_of_bytes(bytes: &[u8], room: u32, whole: fn(&[u8]) -> Made) -> Result<Made, Refusal> {
     check_length(bytes.len())?;
-    let reading = read(bytes);
-    check_room(reading.codes.len(), room)?;
-    Ok(reading)
+    let made = whole(bytes);
+    check_room(made.elements.len(), room)?;
+    Ok(made)
 }

@@ -1,12 +1,13 @@
 // Facts about reading and writing UTF-8, from the Standard's tables and examples and from std.
 // It runs no program and makes no cases; it holds only the definitions of UTF-8 to account.
 
-use crate::byte_texts;
-use crate::facts::{refusal, Facts, TextCase};
-use crate::letters::{is_bad, Refusal, LIMIT};
+use crate::byte_texts::{self, MIXED_TEXT, PLACED};
+use crate::facts::{refusal, refusal_of_bytes, ByteCase, Facts, TextCase};
+use crate::letters::{is_bad, LIMIT};
 use crate::random::Random;
+use crate::reading_cases::READ;
 use crate::texts;
-use crate::utf8::{answer_of_reading, read, written, written_code, Reading, Row};
+use crate::utf8::{read, written, written_code, Reading, Row};
 use crate::utf8::{REPLACEMENT, TABLE_3_7};
 use crate::writing_cases::WRITTEN;
 
@@ -178,9 +179,21 @@ fn reading_as_std_does(facts: &mut Facts) {
         state_as_std_does(facts, &format!("{length} boundary bytes"), &sequences);
     }
     state_as_std_does(facts, "cut sequences", &byte_texts::every_cut_sequence());
-    state_as_std_does(facts, "damaged texts", &byte_texts::damaged_texts());
-    state_as_std_does(facts, "changed texts", &byte_texts::changed_texts());
-    state_as_std_does(facts, "bytes at each place", &byte_texts::at_each_place());
+    state_as_std_does(
+        facts,
+        "damaged texts",
+        &byte_texts::damaged_texts(&MIXED_TEXT),
+    );
+    state_as_std_does(
+        facts,
+        "changed texts",
+        &byte_texts::changed_texts(&MIXED_TEXT),
+    );
+    state_as_std_does(
+        facts,
+        "bytes at each place",
+        &byte_texts::at_each_place(&PLACED),
+    );
 }
 
 fn seeded_readings_as_std_does(facts: &mut Facts) {
@@ -246,17 +259,6 @@ fn tempting_characters_are_kept(facts: &mut Facts) {
     facts.state("tempting characters are kept", well_formed);
 }
 
-/// Number and place of the refusal of a reading; two zeros where it is given.
-fn refusal_of_reading(bytes: &[u8], room: u32) -> (u32, u32) {
-    match answer_of_reading(bytes, room) {
-        Err(Refusal { number, place }) => (number, place),
-        Ok(_) => (0, 0),
-    }
-}
-
-/// A fact in words, bytes, a room, and the number and place of the refusal.
-type ByteCase<'bytes> = (&'static str, &'bytes [u8], u32, (u32, u32));
-
 fn bytes_refused_for_reading(facts: &mut Facts) {
     let full = byte_texts::repeated(&[0xEA, 0xB0, 0x81], LIMIT);
     let over = byte_texts::repeated(&[0xEA, 0xB0, 0x81], LIMIT + 1);
@@ -272,7 +274,7 @@ fn bytes_refused_for_reading(facts: &mut Facts) {
         ("no bytes need no room", &[], 0, (0, 0)),
     ];
     for (fact, bytes, room, expected) in cases {
-        facts.state(fact, refusal_of_reading(bytes, room) == expected);
+        facts.state(fact, refusal_of_bytes(READ.whole, bytes, room) == expected);
     }
 }
 

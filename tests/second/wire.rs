@@ -63,6 +63,12 @@ impl Shape {
         ..Shape::CODES
     };
 
+    /// Bytes in, bytes out.
+    pub const BYTES: Shape = Shape {
+        lent: Width::Byte,
+        ..Shape::BYTES_TO_CODES
+    };
+
     /// Code points in, bytes out.
     pub const CODES_TO_BYTES: Shape = Shape {
         lent: Width::Byte,

@@ -68,7 +68,16 @@ pub fn bytes_in_buffer(_call: &Call, answer: &Answer) -> String {
 
 /// The answer of a kind that fills the lent buffer with code points and counts what it mended.
 pub fn codes_and_subparts(_call: &Call, answer: &Answer) -> String {
-    let front = in_buffer(answer, Width::Number);
+    with_subparts(answer, Width::Number)
+}
+
+/// The answer of a kind that fills the lent buffer with bytes and counts what it mended.
+pub fn bytes_and_subparts(_call: &Call, answer: &Answer) -> String {
+    with_subparts(answer, Width::Byte)
+}
+
+fn with_subparts(answer: &Answer, width: Width) -> String {
+    let front = in_buffer(answer, width);
     let rest = unexpected_values(0, answer.third);
     format!("{front}, {} ill-formed{rest}", answer.second)
 }

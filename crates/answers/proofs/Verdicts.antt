@@ -1,5 +1,6 @@
 -- The ways in which a call returns, one law each: of a call that takes one code point, and of a call that fills a lent buffer, for any check,
--- elements and value; and that any two results that the scheme admits are equal. Not here: the checks by themselves (proofs/Checks).
+-- elements and value; that any two results that the scheme admits are equal (`fills-unique`); and what a call that is done says (`fills-done`).
+-- Not here: the checks by themselves (proofs/Checks).
 -- Assumes nothing.
 use mathlib.Core.Path.{_≡_, refl, sym, _∙_, ap}
 use mathlib.Core.Bool.{Bool, true, false}
@@ -8,8 +9,8 @@ use Prim.Native.Nat.{ℕ, _≤_, _<_}
 use native.Mathlib.Omega.{arith}
 use lib.ListN.{length}
 use Rattle.laws.specs.Writing.{front, Fronts}
-use Rattle.answers.specs.Checks.{Check, passes, refuses, bad, badCodePoint, lacking, takesText}
-use Rattle.answers.specs.Verdicts.{Verdict, done, refused, verdict, Fills}
+use Rattle.answers.specs.Checks.{Check, passes, refuses, inOrder, noRoom, bad, badCodePoint, lacking, takesText}
+use Rattle.answers.specs.Verdicts.{Verdict, done, refused, verdict, after, fits, Fills}
 use Rattle.answers.specs.Answers.{checked, Makes}
 use Rattle.answers.specs.declared.Refusal.{Refusal}
 use Rattle.answers.specs.declared.Refusal.the-variants.{NoRoom}
@@ -47,6 +48,25 @@ module _ {A Value : Type 0} {before : Check} {whole out : List A} {value : Value
   -- any two results are equal
   pub fills-unique : {a b : Verdict Value} {o p : List A} → Fills before whole value out a o → Fills before whole value out b p → (a ≡ b) × (o ≡ p)
   fills-unique f g = (f .answers ∙ sym (g .answers), f .leaves ∙ sym (g .leaves))
+
+-- what a call that is done says: its checks passed, and it answers and leaves what it should
+done-not-refused : {Value : Type 0} {value : Value} {number place : ℕ} → done value ≡ refused number place → ⊥
+done-not-refused e = let z : _≡_ {A = ℕ} 0 1 = cc in omega arith
+
+done-is : {A Value : Type 0} (check : Check) (value : Value) (whole out : List A) {answer : Value} {out′ : List A} → done answer ≡ verdict check value
+    → out′ ≡ after check whole out → (check ≡ passes) × (answer ≡ value) × (out′ ≡ front whole out)
+done-is passes value whole out e q = (refl, cc, q)
+done-is (refuses number place) value whole out e q = absurd (done-not-refused e)
+
+first-passes : (check next : Check) → inOrder (check ∷ next ∷ []) ≡ passes → check ≡ passes
+first-passes passes next e = refl
+first-passes (refuses number place) next e = e
+
+pub fills-done : {A Value : Type 0} {before : Check} {whole out : List A} {value answer : Value} {out′ : List A}
+    → Fills before whole value out (done answer) out′ → (before ≡ passes) × (answer ≡ value) × (out′ ≡ front whole out)
+fills-done {before = before} {whole = whole} {out = out} {value = value} f =
+    let h = done-is (fits before whole out) value whole out (f .answers) (f .leaves) in
+    (first-passes before (noRoom (length out) (length whole)) (h .0), h .1, h .2)
 
 -- the checks passed
 pub checks-passed : {v : Checked} {before : Check} → checked v ≡ before → v ≡ Passed → before ≡ passes

@@ -99,6 +99,16 @@ fn answer_write(text: &mut [u32], lent: &mut [u8], bytes: &mut [u8]) -> bool {
     write_bytes(answer, lent, bytes)
 }
 
+// Mending: bytes in, bytes out.
+fn answer_mend(text: &mut [u8], lent: &mut [u8], bytes: &mut [u8]) -> bool {
+    if !read_whole(text) {
+        return false;
+    }
+    wire::fill_bytes(lent);
+    let answer = encoded::mend(text, lent);
+    write_bytes(answer, lent, bytes)
+}
+
 // Answers the call whose head was read, and says whether to go on: no where it is too large, where
 // it is of no kind, and where it has elements of b, which none of these kinds takes.
 fn answer_call(
@@ -132,6 +142,7 @@ fn answer_call(
         1..=4 => answer_codes(kind, code, &mut text[..first], &mut lent[..room], bytes),
         10 => answer_read(&mut input[..first], &mut lent[..room], bytes),
         11 => answer_write(&mut text[..first], &mut filled[..room], bytes),
+        12 => answer_mend(&mut input[..first], &mut filled[..room], bytes),
         _ => false,
     }
 }

@@ -6,9 +6,11 @@
 -- `once`, `stays-open`); the joined text with no machine (`join-one`, `join-joined`, `join-apart`, `join-closed`); two and three at once (`join-two`,
 -- `join-three`, `join-two-letters`, `join-three-letters`); left to right, only neighbours (`left-to-right`, `neighbours`); cuts (`fence`, `join-cut`,
 -- `none-wall`, `mark-wall`, `mark-around`); joining what was taken apart (`join-step`, `join-parts-to`, `join-parts`); taking apart what was joined (`parts-join`,
--- `join-join`, `same-join`, `same-parts`); lengths (`join-most`, `join-least`); a text in which nothing joins (`join-none`).
+-- `join-join`, `same-join`, `same-parts`); lengths (`join-most`, `join-least`); a text in which nothing joins (`join-none`); joining makes no bad
+-- code point (`join-good`).
 -- Assumes nothing.
 use mathlib.Core.Path.{_≡_, refl, sym, _∙_, ap}
+use mathlib.Core.Bool.{false}
 use mathlib.Core.List.{List, [], _∷_, _++_, append-assoc, append-nil}
 use Prim.Native.Nat.{ℕ, zero, suc, _+_, _*_, _≤_, _<_}
 use native.Mathlib.Omega.{arith}
@@ -20,6 +22,7 @@ use Rattle.laws.specs.Machines.{outs, ends, from, Splits, Fence, Wall}
 use Rattle.laws.proofs.Bools.{test}
 use Rattle.laws.proofs.Lists.{each-each, each-alone, all-of}
 use Rattle.laws.proofs.Machines.{from-append, cut, around, same-whole}
+use Rattle.answers.specs.Checks.{bad}
 use Rattle.letters.specs.Syllables.{oneStep, partsTo, fullParts}
 use Rattle.joining.specs.declared.role.Role.{Role}
 use Rattle.joining.specs.declared.role.Role.the-variants.{Initial as RoleInitial, Peak, Final, Lv as RoleLv, None}
@@ -28,7 +31,8 @@ use Rattle.joining.specs.declared.joiner.Open.the-variants.{Nothing, Ini
 use Rattle.joining.specs.Joining.{roleOf, pair, opensAs, opens, held, meets, unless, joinStep, joinEmit, joiner, join}
 use Rattle.joining.specs.Grouping.{Grouped, none, alone, two, three, Hard}
 use Rattle.joining.proofs.Roles.{role-between, firm, hard-as}
-use Rattle.joining.proofs.Pairs.{pair-as, by-pair, pair-before, two-letters, three-letters, lv-made, lvt-made, step-pair, by-parts, pair-parts, no-fourth}
+use Rattle.joining.proofs.Pairs.{pair-as, by-pair, pair-before, two-letters, three-letters, lv-made, lvt-made, pair-good, step-pair, by-parts}
+use Rattle.joining.proofs.Pairs.{pair-parts, no-fourth}
 
 -- ---- one step: what is open and c do not join, or they do
 
@@ -252,3 +256,14 @@ pub join-none : {x : List ℕ} → All Hard x → join x ≡ x
 join-none no-more = refl
 join-none (also {a = a} h no-more) = join-one a
 join-none (also {a = a} h (also {a = b} {x = x} k p)) = join-apart a b x (pair-before a b (k .0) (k .1)) ∙ ap (λ l. a ∷ l) (join-none (also k p))
+
+-- ---- joining makes no bad code point
+
+grouped-good : {x y : List ℕ} → Grouped x y → All (λ c. bad c ≡ false) x → All (λ c. bad c ≡ false) y
+grouped-good none no-more = no-more
+grouped-good (alone a g) (also h p) = also h (grouped-good g p)
+grouped-good (two a b n g) (also h (also k p)) = also (pair-good a b n) (grouped-good g p)
+grouped-good (three a b c n m g) (also h (also k (also l p))) = also (pair-good (pair a b) c m) (grouped-good g p)
+
+pub join-good : (x : List ℕ) → All (λ c. bad c ≡ false) x → All (λ c. bad c ≡ false) (join x)
+join-good x p = grouped-good (neighbours x) p

@@ -2,11 +2,11 @@
 -- Not here: a whole text (proofs/Joins), the roles from the ranges (proofs/Roles).
 --
 -- In order: by roles (`pair-as`, `pair-lv`, `pair-lvt`, `by-pair`, `pair-other`, `pair-before`, `pair-firm`, `pair-behind`, `pair-none`); by numbers (`two-letters`,
--- `lv-letter`, `three-letters`); what two that join make (`lv-made`, `lvt-made`, `pair-syllable`); the pair law (`pair-step`, `step-pair`, `pair-law`,
+-- `lv-letter`, `three-letters`); what two that join make (`lv-made`, `lvt-made`, `pair-syllable`, `pair-good`); the pair law (`pair-step`, `step-pair`, `pair-law`,
 -- `by-parts`, `pair-parts`); what joins with nothing more (`lvt-closed`, `no-fourth`, `a7-no-final`).
 -- Assumes nothing.
 use mathlib.Core.Path.{_≡_, refl, sym, _∙_, ap}
-use mathlib.Core.Bool.{true}
+use mathlib.Core.Bool.{true, false}
 use mathlib.Core.Logic.{_↔_}
 use mathlib.Core.List.{[], _∷_, _++_, append-nil}
 use Prim.Native.Nat.{ℕ, _+_, _-_, _*_, _≤_, _<_}
@@ -14,6 +14,8 @@ use native.Mathlib.Omega.{arith}
 use lib.Dec.{T}
 use lib.ListN.{length}
 use Rattle.laws.specs.Lists.{each}
+use Rattle.answers.specs.Checks.{bad}
+use Rattle.answers.proofs.Checks.{good-low}
 use Rattle.letters.specs.declared.sort.Sort.the-variants.{Lvt}
 use Rattle.letters.specs.Sorts.{sortOf}
 use Rattle.letters.specs.Syllables.{isSyllable, indexOf, initialOf, peakOf, finalOf, oneStep, partsOf}
@@ -133,6 +135,10 @@ module _ (s f : ℕ) (p : roleOf s ≡ RoleLv) (q : roleOf f ≡ Final) where
 -- so two that join make a syllable
 pub pair-syllable : (a b : ℕ) → (pair a b ≡ 0 → ⊥) → isSyllable (pair a b) ≡ true
 pair-syllable a b n = by-pair a b (lv-is-syllable a b) (lvt-is-syllable a b) (λ z. absurd (n z))
+
+-- syllables lie below the surrogates
+pub pair-good : (a b : ℕ) → (pair a b ≡ 0 → ⊥) → bad (pair a b) ≡ false
+pair-good a b n = good-low (pair a b) (omega (arith, syllable-most (pair a b) (pair-syllable a b n)))
 
 -- ---- THE PAIR LAW
 

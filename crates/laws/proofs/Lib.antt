@@ -1,4 +1,4 @@
--- Crate laws, proofs/: the laws of lists, ranges, tables, machines, pieces, readings, damage and writing, lowest first.
+-- Crate laws, proofs/: the laws of lists, ranges, tables, machines, pieces, readings, places, damage and writing, lowest first.
 -- Not here: the definitions (specs/), and the proofs of the functions, which stand in folders of their own.
 pub mod Bools
 pub mod Lists
@@ -8,5 +8,6 @@ pub mod Machines
 pub mod Pieces
 pub mod Seams
 pub mod Readings
+pub mod Places
 pub mod Damage
 pub mod Filling

@@ -1,4 +1,5 @@
--- Crate laws, specs/: the definitions that know nothing of Hangul: lists, ranges, machines, pieces, readings, damage, writing, lowest first.
+-- Crate laws, specs/: the definitions that know nothing of Hangul: lists, ranges, machines, pieces, readings, damage and its places, writing, lowest
+-- first.
 -- Not here: any law or proof (proofs/).
 pub mod Lists
 pub mod Ranges
@@ -6,4 +7,5 @@ pub mod Machines
 pub mod Pieces
 pub mod Readings
 pub mod Damage
+pub mod Places
 pub mod Writing

@@ -1,7 +1,7 @@
 -- Reading a whole text of bytes. In order: THE READING IS CHAPTER 3'S, and the only one (`reading8`, `reading8-unique`); at most as many code points as
--- bytes, and at most as many ill-formed subparts as code points (`read-most`, `ills-most`); every one is a scalar value (`read-good`, `read-taken`);
--- what the loops over a text ask (`Ills`, `next-piece`, `next-good`, `next-ills`, `read-end`, `ills-end`); the ways in which the call returns
--- (`reads-refused`, `reads-lacking`, `reads-done`); and that its answers are known by their verdicts (`read-injective`, `reads-unique`).
+-- bytes, and at most as many ill-formed subparts as code points (`maximal-some`, `read-most`, `ills-most`); every one is a scalar value (`read-good`,
+-- `read-taken`); what the loops over a text ask (`Ills`, `next-piece`, `next-good`, `next-ills`, `read-end`, `ills-end`); the ways in which the call
+-- returns (`reads-refused`, `reads-lacking`, `reads-done`); and that its answers are known by their verdicts (`read-injective`, `reads-unique`).
 -- Not here: what begins at an index (proofs/Takes), the rows of the table (proofs/Rows).
 -- Assumes nothing.
 use mathlib.Core.Path.{_≡_, sym, _∙_, ap}
@@ -47,7 +47,7 @@ reading8-unique r = reading-pieces kindOf coherent8 r
 
 -- ---- how many
 
-maximal-some : (u t : List ℕ) → Maximal kindOf u t → 1 ≤ length u
+pub maximal-some : (u t : List ℕ) → Maximal kindOf u t → 1 ≤ length u
 maximal-some u t m = ⊎-elim (λ (e : kindOf u ≡ part). part-some u e) (λ (e : length u ≡ 1). omega arith) (m .begins)
 
 reading-most : {t : List ℕ} {P : List (PieceOf ℕ)} → Reading kindOf t P → length (codes utf8 P) ≤ length t
@@ -118,24 +118,22 @@ module _ (text : List ℕ) (at : ℕ) (h : length text ≤ at) where
 counted-same : (r : Counted) {l i : ℕ} → r .length ≡ l → r .ills ≡ i → r ≡ record { length = l; ills = i }
 counted-same r p q = rw (← p, ← q)
 
-module _ {text out : List ℕ} where
+module _ {make : List ℕ → List ℕ} {text out : List ℕ} where
   -- v is what the check said
-  pub reads-refused : {v : Checked} {r : Refusal} → checked v ≡ takesBytes text → v ≡ CheckRefused r → Reads text out (Refused r) out
+  pub reads-refused : {v : Checked} {r : Refusal} → checked v ≡ takesBytes text → v ≡ CheckRefused r → Reads make text out (Refused r) out
   reads-refused e q = record { fills = refused-before (sym e ∙ ap checked q) }
 
   -- n is what is found to be lacking
-  module _ (taken : takesBytes text ≡ passes) {n : ℕ} (found : n ≡ lacking (length out) (length (readText text))) where
-    pub reads-lacking : (n ≡ 0 → ⊥) → Reads text out (Refused (NoRoom n)) out
-    reads-lacking h = record {
-      fills =
-          refused-room taken (lacking-size (length out) (length (readText text)) found h) (lacking-less (length out) (length (readText text)) found h);
-    }
+  module _ (taken : takesBytes text ≡ passes) {n : ℕ} (found : n ≡ lacking (length out) (length (make text))) where
+    pub reads-lacking : (n ≡ 0 → ⊥) → Reads make text out (Refused (NoRoom n)) out
+    reads-lacking h =
+        record { fills = refused-room taken (lacking-size (length out) (length (make text)) found h) (lacking-less (length out) (length (make text)) found h) }
 
-    pub reads-done : n ≡ 0 → {r : Counted} {out′ : List ℕ} → ReadFronts text out r out′ → Reads text out (Done r) out′
+    pub reads-done : n ≡ 0 → {r : Counted} {out′ : List ℕ} → ReadFronts make text out r out′ → Reads make text out (Done r) out′
     reads-done e {r} w = record {
       fills =
           rw (counted-same r (w .fronts .size) (w .ills))
-          (filled-whole taken (lacking-room (length out) (length (readText text)) found e) (w .fronts .holds));
+          (filled-whole taken (lacking-room (length out) (length (make text)) found e) (w .fronts .holds));
     }
 
 -- ---- its answers
@@ -147,7 +145,8 @@ read-injective (Refused r) (Done n) e = cc
 read-injective (Refused r) (Refused s) e = ap Refused (refusedBy-injective r s e)
 
 -- any two results that the contract admits are equal
-pub reads-unique : (text out : List ℕ) {r s : Read} {o p : List ℕ} → Reads text out r o → Reads text out s p → (r ≡ s) × (o ≡ p)
-reads-unique text out f g =
+pub reads-unique : (make : List ℕ → List ℕ) (text out : List ℕ) {r s : Read} {o p : List ℕ} → Reads make text out r o → Reads make text out s p
+    → (r ≡ s) × (o ≡ p)
+reads-unique make text out f g =
     let h = fills-unique (f .fills) (g .fills) in
     (read-injective _ _ (h .0), h .1)

@@ -1,7 +1,7 @@
 -- What begins at an index of a text of bytes. In order: bytes at an index; a sequence that is begun and not yet whole (`Stands`: the bytes a ∷ x are
 -- open, and the row goes on with `row`), from its first byte (`begins-between`, `begun`) on with each byte in range (`goes-on`), to its last one (`whole-taken`) or to a
 -- byte out of range or the end (`broken-taken`); the sequences of one byte (`one-taken`, `none-taken`, `end-taken`); and what taking a piece leaves
--- to be read (`Next`, `taken-next`).
+-- to be read (`behind`, `units-inside`, `Next`, `taken-next`).
 -- Not here: the rows themselves (proofs/Rows), the loops over a text (proofs/Reading).
 -- Assumes nothing.
 use mathlib.Core.Path.{_≡_, refl, sym, _∙_, ap}
@@ -140,14 +140,14 @@ module _ (text : List ℕ) (at : ℕ) (w : Piece ℕ) (P : List (Piece ℕ)) (e 
   split : drop at text ≡ units w ++ unitsOf P
   split = rw append-nil at (halves .text)
 
-  behind : pieces kindOf (drop (at + length (units w)) text) ≡ P
+  pub behind : pieces kindOf (drop (at + length (units w)) text) ≡ P
   behind = rw (← (drop-drop (length (units w)) at text), split, drop-append-seam) (halves .behind)
 
   some-units : (u : List ℕ) → units w ≡ u → 1 ≤ length u
   some-units [] q = absurd (nil≢cons (rw (append-nil, q) at (halves .before)))
   some-units (a ∷ u) q = omega arith
 
-  units-inside : at < length text → at + length (units w) ≤ length text
+  pub units-inside : at ≤ length text → at + length (units w) ≤ length text
   units-inside h = omega (arith, length-drop at text, simp length-append at (ap length split))
 
 taken-pieces : (text : List ℕ) (at : ℕ) → at < length text → (P : List (Piece ℕ)) → pieces kindOf (drop at text) ≡ P → Next text at (takenFrom P)
@@ -157,14 +157,14 @@ taken-pieces text at h (good u ∷ P) e = record {
   read = rw (e, behind text at (good u) P e);
   ills = rw (e, behind text at (good u) P e) (omega arith);
   more = some-units text at (good u) P e u refl;
-  inside = units-inside text at (good u) P e h;
+  inside = units-inside text at (good u) P e (omega arith);
   few = omega arith;
 }
 taken-pieces text at h (ill u ∷ P) e = record {
   read = rw (e, behind text at (ill u) P e);
   ills = rw (e, behind text at (ill u) P e) (omega arith);
   more = some-units text at (ill u) P e u refl;
-  inside = units-inside text at (ill u) P e h;
+  inside = units-inside text at (ill u) P e (omega arith);
   few = omega arith;
 }
 

@@ -3,22 +3,23 @@
 --
 -- In order: `bytesOf` by the bounds of the code point (`bytes-one` .. `bytes-four`); its length (`long-one` .. `long-four`, `bytes-least`,
 -- `bytes-most`), by a view of the four cases (`Width`); a text's bytes (`write-append`, `write-most`, `write-least`); at a loop's index
--- (`write-piece`, `write-end`, `taken-most`).
+-- (`write-piece`, `write-end`, `taken-most`); the bytes that fit from an index on (`fitting-all`, `fitting-full`, `fitting-over`).
 -- Assumes nothing.
 use mathlib.Core.Path.{_≡_, refl, sym, ap}
-use mathlib.Core.Bool.{Bool, true, false}
+use mathlib.Core.Bool.{Bool, true, false, _&&_}
 use mathlib.Core.List.{List, [], _∷_, _++_}
 use Prim.Native.Nat.{ℕ, _+_, _*_, _/_, _%_, _≤_, _<_}
 use native.Mathlib.Omega.{arith}
 use lib.ListN.{length, getD, drop}
-use lib.Dec.{ltb}
-use borrow.Author.Tests.{lt-ltb, le-ltb, ltb-true, ltb-false}
+use lib.Dec.{ltb, leb}
+use borrow.Author.Tests.{lt-ltb, le-ltb, ltb-true, ltb-false, le-leb, lt-leb}
 use Rattle.laws.specs.Lists.{each}
+use Rattle.laws.proofs.Bools.{and-not-right}
 use Rattle.laws.proofs.Lists.{each-end, each-append, length-each-least, length-each-most}
 use Rattle.laws.proofs.Filling.{Piece, each-piece}
 use Rattle.answers.specs.Checks.{passes, takesText}
 use Rattle.answers.proofs.Checks.{good-most, taken-good}
-use Rattle.utf8.specs.Utf8.{bytesOf, writeText}
+use Rattle.utf8.specs.Utf8.{bytesOf, writeText, fitting}
 
 -- ---- a code point's bytes, by its bounds
 
@@ -115,3 +116,18 @@ write-end text i h = each-end bytesOf text i h
 -- a code point of a text that is taken is within the limit
 pub taken-most : (text : List ℕ) → takesText text ≡ passes → (i : ℕ) → i < length text → getD text i 0 ≤ 0x10FFFF
 taken-most text e i h = good-most (getD text i 0) (taken-good text e i h)
+
+-- ---- the bytes that fit from an index on
+
+module _ (c : ℕ) (out : List ℕ) (at : ℕ) where
+  pub fitting-all : c ≤ 0x10FFFF → at + length (bytesOf c) ≤ length out → fitting c out at ≡ bytesOf c
+  unfolding fitting
+  fitting-all h k = rw (le-leb c 0x10FFFF h, le-leb (at + length (bytesOf c)) (length out) k)
+
+  pub fitting-full : length out < at + length (bytesOf c) → fitting c out at ≡ []
+  unfolding fitting
+  fitting-full k = rw (and-not-right (leb c 0x10FFFF) _ (lt-leb (at + length (bytesOf c)) (length out) k))
+
+  pub fitting-over : 0x10FFFF < c → fitting c out at ≡ []
+  unfolding fitting
+  fitting-over h = rw (lt-leb c 0x10FFFF h)

@@ -1,5 +1,5 @@
--- Reading UTF-8, as the code answers it: what begins at an index, and the contract of reading a whole text (document 01, 'Bytes', 'Refusal numbers').
--- Not here: what the bytes read as (specs/Utf8). Assumes nothing.
+-- Reading UTF-8, as the code answers it: what begins at an index, and the contract of a call that makes something of a text of bytes and counts its
+-- ill-formed subparts (document 01, 'Bytes', 'Refusal numbers'). Not here: what the bytes read as (specs/Utf8). Assumes nothing.
 use mathlib.Core.Path.{_≡_}
 use mathlib.Core.Option.{Option}
 use mathlib.Core.List.{List, [], _∷_}
@@ -11,7 +11,7 @@ use Rattle.answers.specs.Checks.{takesBytes}
 use Rattle.answers.specs.Verdicts.{Verdict, done, Fills}
 use Rattle.answers.specs.Answers.{refusedBy}
 use Rattle.utf8.specs.Table37.{Bytes, rowOf}
-use Rattle.utf8.specs.Utf8.{valueOf, readText, illText}
+use Rattle.utf8.specs.Utf8.{valueOf, illText}
 use Rattle.utf8.specs.declared.read.Taken.{Taken}
 use Rattle.utf8.specs.declared.read.Counted.{Counted}
 use Rattle.utf8.specs.declared.read.Read.{Read}
@@ -38,9 +38,9 @@ pub record Begins (text : List ℕ) (at a : ℕ) (row : Option (List Bytes)) (lo
   pub least : lo ≤ a
   pub most : a ≤ hi
 
--- what was read fills the front of the buffer, and what was counted is its length and the number of ill-formed subparts
-pub record ReadFronts (text out : List ℕ) (r : Counted) (out′ : List ℕ) : Type 0 where
-  pub fronts : Fronts (readText text) out (r .length) out′
+-- what is made of the bytes fills the front of the buffer, and what was counted is its length and the number of ill-formed subparts
+pub record ReadFronts (make : List ℕ → List ℕ) (text out : List ℕ) (r : Counted) (out′ : List ℕ) : Type 0 where
+  pub fronts : Fronts (make text) out (r .length) out′
   pub ills : r .ills ≡ illText text
 
 -- the answer read as a verdict: the length, and the number of ill-formed subparts
@@ -48,10 +48,10 @@ abbrev pub readAs : Read → Verdict Counted
 readAs (Done counted) = done counted
 readAs (Refused r) = refusedBy r
 
--- what reading a text counts
-abbrev pub countedOf : List ℕ → Counted
-countedOf text = record { length = length (readText text); ills = illText text }
+-- what there is to count
+abbrev pub countedOf : (List ℕ → List ℕ) → List ℕ → Counted
+countedOf make text = record { length = length (make text); ills = illText text }
 
--- THE CONTRACT of reading: 1, then 3
-pub record Reads (text out : List ℕ) (r : Read) (out′ : List ℕ) : Type 0 where
-  pub fills : Fills (takesBytes text) (readText text) (countedOf text) out (readAs r) out′
+-- THE CONTRACT of a call that makes `make text` of bytes: 1, then 3; reading is the call at `readText`
+pub record Reads (make : List ℕ → List ℕ) (text out : List ℕ) (r : Read) (out′ : List ℕ) : Type 0 where
+  pub fills : Fills (takesBytes text) (make text) (countedOf make text) out (readAs r) out′

@@ -1,9 +1,10 @@
 -- UTF-8 as an encoding, and the code points and bytes of texts: The Unicode Standard 15.0, chapter 3, section 3.9, D92 with table 3-6 (the bits of a
 -- scalar value in its bytes). Not here: which sequences are well-formed (specs/Table37). Assumes nothing.
-use mathlib.Core.Bool.{Bool, cond, not}
+use mathlib.Core.Bool.{Bool, cond, not, _&&_}
 use mathlib.Core.List.{List, [], _∷_}
 use Prim.Native.Nat.{ℕ, _+_, _-_, _*_, _/_, _%_}
-use lib.Dec.{ltb}
+use lib.Dec.{ltb, leb}
+use lib.ListN.{length}
 use Rattle.laws.specs.Lists.{each}
 use Rattle.laws.specs.Ranges.{within}
 use Rattle.laws.specs.Pieces.{pieces, illCount}
@@ -45,3 +46,7 @@ illText bytes = illCount (pieces kindOf bytes)
 -- writing a text of code points
 abbrev pub writeText : List ℕ → List ℕ
 writeText text = each bytesOf text
+
+-- the bytes of one code point, where a buffer has room for all of them from an index on, else none; nor are there any of a number over 10FFFF
+unfoldable pub fitting : ℕ → List ℕ → ℕ → List ℕ
+fitting c out at = cond (leb c 0x10FFFF && leb (at + length (bytesOf c)) (length out)) (bytesOf c) []

@@ -22,13 +22,13 @@ pub struct Taken {
     pub ill: usize,
 }
 
-// How many code points were read, and how many ill-formed subparts are among them.
+// How long what was made of bytes is, and how many ill-formed subparts the bytes have.
 pub struct Counted {
     pub length: usize,
     pub ills: usize,
 }
 
-// The answer of reading: what was counted, or why not.
+// The answer of a call that reads bytes: what was counted, or why not.
 pub enum Read {
     Done(Counted),
     Refused(Refusal),
@@ -186,7 +186,7 @@ fn read_lacking(text: &[u8], room: usize) -> usize
 fn read_into(text: &[u8], out: &mut [u32]) -> Counted
     requires { ⌜ length (now text) ≤ 16384 ⌝ }
     requires { ⌜ length (readText (now text)) ≤ length (now out) ⌝ }
-    ensures { λ r. ⌜ ReadFronts (now (text .entry)) (now (out .entry)) r (now (out .exit)) ⌝ }
+    ensures { λ r. ⌜ ReadFronts readText (now (text .entry)) (now (out .entry)) r (now (out .exit)) ⌝ }
 {
     let mut length: usize = 0;
     let mut ills: usize = 0;
@@ -204,7 +204,7 @@ fn read_into(text: &[u8], out: &mut [u32]) -> Counted
 // A text that has passed its check: refusal 3 or done.
 fn read_checked(text: &[u8], out: &mut [u32]) -> Read
     requires { ⌜ takesBytes (now text) ≡ passes ⌝ }
-    ensures { λ r. ⌜ Reads (now (text .entry)) (now (out .entry)) r (now (out .exit)) ⌝ }
+    ensures { λ r. ⌜ Reads readText (now (text .entry)) (now (out .entry)) r (now (out .exit)) ⌝ }
 {
     let needed = read_lacking(text, out.len());
     if needed != 0 {
@@ -215,7 +215,7 @@ fn read_checked(text: &[u8], out: &mut [u32]) -> Read
 
 // Reads a text of bytes into a lent buffer: refusals 1 and 3.
 pub fn read_text(text: &[u8], out: &mut [u32]) -> Read
-    ensures { λ r. ⌜ Reads (now (text .entry)) (now (out .entry)) r (now (out .exit)) ⌝ }
+    ensures { λ r. ⌜ Reads readText (now (text .entry)) (now (out .entry)) r (now (out .exit)) ⌝ }
 {
     let checked = answers::check_bytes(text);
     match checked {

@@ -9,7 +9,7 @@ ghost use lib.ListN.{length};
 ghost use Rattle.laws.specs.Writing.{Room, Wrote, Fronts};
 ghost use Rattle.answers.specs.Checks.{lacking, passes, takesText};
 ghost use Rattle.answers.specs.Answers.{Makes};
-ghost use Rattle.utf8.specs.Utf8.{bytesOf, writeText};
+ghost use Rattle.utf8.specs.Utf8.{bytesOf, writeText, fitting};
 
 // How many bytes a code point takes.
 pub fn size_of(code: u32) -> usize
@@ -84,6 +84,23 @@ fn put(code: u32, out: &mut [u8], at: usize) -> usize
         return put_three(code, out, at);
     }
     put_four(code, out, at)
+}
+
+// The same for every number and every index: where there is no room for all the bytes, or they are
+// those of no code point, nothing is written.
+pub fn put_at(code: u32, out: &mut [u8], at: usize) -> usize
+    ensures { λ r. ⌜ Wrote (now (out .entry)) at (fitting code (now (out .entry)) at) r (now (out .exit)) ⌝ }
+{
+    if out.len() <= at {
+        return at;
+    }
+    if out.len() - at < size_of(code) {
+        return at;
+    }
+    if 0x10FFFF < code {
+        return at;
+    }
+    put(code, out, at)
 }
 
 // How many bytes a text takes.

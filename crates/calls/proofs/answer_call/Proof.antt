@@ -73,6 +73,21 @@ slice-aggregate-answer-write-2 c = sym (length-take-le _ _ (omega arith))
 answer-write-requires : tie.Need-answer-write-requires
 answer-write-requires c κs = search needs
 
+slice-relend-prefix-answer-mend : tie.Need-slice-relend-prefix-answer-mend
+slice-relend-prefix-answer-mend c = search needs
+
+slice-aggregate-answer-mend : tie.Need-slice-aggregate-answer-mend
+slice-aggregate-answer-mend c = sym (length-take-le _ _ (omega arith))
+
+slice-relend-prefix-answer-mend-2 : tie.Need-slice-relend-prefix-answer-mend-2
+slice-relend-prefix-answer-mend-2 c = search needs
+
+slice-aggregate-answer-mend-2 : tie.Need-slice-aggregate-answer-mend-2
+slice-aggregate-answer-mend-2 c = sym (length-take-le _ _ (omega arith))
+
+answer-mend-requires : tie.Need-answer-mend-requires
+answer-mend-requires c κs = search needs
+
 slice-relend-prefix-answer-codes : tie.Need-slice-relend-prefix-answer-codes
 slice-relend-prefix-answer-codes c = search needs
 
@@ -124,11 +139,23 @@ same-length-9 c = search needs
 returns-8 : tie.Need-returns-8
 returns-8 c = search needs
 
+same-length-10 : tie.Need-same-length-10
+same-length-10 c = search needs
+
+same-length-11 : tie.Need-same-length-11
+same-length-11 c = search needs
+
+same-length-12 : tie.Need-same-length-12
+same-length-12 c = search needs
+
 returns-9 : tie.Need-returns-9
 returns-9 c = search needs
 
 returns-10 : tie.Need-returns-10
 returns-10 c = search needs
+
+returns-11 : tie.Need-returns-11
+returns-11 c = search needs
 
 pub answer-call-spec : {M : Type 1} → statement M
 answer-call-spec =
@@ -156,6 +183,11 @@ answer-call-spec =
     slice-relend-prefix-answer-write-2
     slice-aggregate-answer-write-2
     answer-write-requires
+    slice-relend-prefix-answer-mend
+    slice-aggregate-answer-mend
+    slice-relend-prefix-answer-mend-2
+    slice-aggregate-answer-mend-2
+    answer-mend-requires
     slice-relend-prefix-answer-codes
     slice-aggregate-answer-codes
     slice-relend-prefix-answer-codes-2
@@ -173,5 +205,9 @@ answer-call-spec =
     same-length-8
     same-length-9
     returns-8
+    same-length-10
+    same-length-11
+    same-length-12
     returns-9
-    returns-10)
+    returns-10
+    returns-11)

@@ -1,0 +1,179 @@
+-- Bytes that pass: parts of a text that stand in the mended text as they stand in the text.
+-- Not here: the first character of a text, whatever it is (proofs/Characters), one turn of the loops, and the copy of what passes (proofs/Turns).
+--
+-- In order: nothing, and one part behind the other (`passes-none`, `passes-on`); a well-formed sequence that joins with nothing behind it
+-- (`passes-full`); ASCII, one byte and eight (`low-passes`, `low-eight`); a letter of the block 1100–11FF begins with E1 (`letter-first`), so before
+-- any other byte nothing joins (`apart-behind`) and a character of three bytes passes (`three-stands`, `three-passes`); the high bits of eight bytes,
+-- tested in one number (`bit-none`, `word-low`).
+-- Assumes nothing.
+use mathlib.Core.Path.{_≡_, refl, sym, _∙_, ap}
+use mathlib.Core.Bool.{true}
+use mathlib.Core.List.{List, [], _∷_, _++_, append-assoc}
+use Prim.Native.Nat.{ℕ, suc, _+_, _/_, _%_, _^_, _≤_, _<_}
+use native.Mathlib.Nat.{add-zero, zero-div}
+use native.Mathlib.Numerals.{add-one}
+use native.Mathlib.Omega.{arith}
+use lib.Bits.{bitAnd, and-shr, and-mod, and-mask}
+use lib.Dec.{ltb, eqb}
+use lib.ListN.{length, getD, drop}
+use lib.Seq.{drop-cons, getD-drop}
+use borrow.Author.Tests.{eq-eqb, eqb-true, ltb-true, ltb-false}
+use Rattle.laws.specs.Pieces.{Piece, full, good, pieces}
+use Rattle.laws.specs.Readings.{Reading, nothing, formed, broken}
+use Rattle.laws.proofs.Bools.{test}
+use Rattle.joining.specs.Joining.{pair}
+use Rattle.joining.proofs.Roles.{role-between, peak-range, final-range}
+use Rattle.joining.proofs.Pairs.{pair-before, pair-none}
+use Rattle.utf8.specs.Table37.{kindOf}
+use Rattle.utf8.specs.Utf8.{valueOf}
+use Rattle.utf8.specs.Reading.{goodOf}
+use Rattle.utf8.proofs.Rows.{row-between}
+use Rattle.utf8.proofs.Forms.{ends, goes, full-by}
+use Rattle.utf8.proofs.Writing.{bytes-three}
+use Rattle.utf8.proofs.Reading.{reading8}
+use Rattle.utf8.proofs.Round.{full-piece, full-bytes}
+use Rattle.mending.specs.Characters.{grown, characterFrom}
+use Rattle.mending.specs.Steps.{Passes, Three, Low, wordOf}
+use Rattle.mending.proofs.Characters.{apart-ill, stops, Character, character-next}
+
+-- ---- nothing, and one part behind the other
+
+pub passes-none : (text : List ℕ) (at : ℕ) → at ≤ length text → Passes text at at
+passes-none text at h =
+    record { same = []; stands = refl; goes = record { mends = refl; ills = omega arith; on = omega arith; inside = h } }
+
+pub passes-on : {text : List ℕ} {a b c : ℕ} → Passes text a b → Passes text b c → Passes text a c
+passes-on p q = record {
+  same = p .same ++ q .same;
+  stands = p .stands ∙ rw (q .stands, append-assoc);
+  goes = record {
+    mends = p .goes .mends ∙ rw (q .goes .mends, append-assoc);
+    ills = omega (arith, p .goes .ills, q .goes .ills);
+    on = omega (arith, p .goes .on, q .goes .on);
+    inside = q .goes .inside;
+  };
+}
+
+-- ---- A WELL-FORMED SEQUENCE THAT JOINS WITH NOTHING BEHIND IT
+
+module _ (text : List ℕ) (at : ℕ) (u : List ℕ) (stands : drop at text ≡ u ++ drop (at + length u) text) (f : kindOf u ≡ full) where
+  piece-front : pieces kindOf (drop at text) ≡ good u ∷ pieces kindOf (drop (at + length u) text)
+  piece-front = ap (pieces kindOf) stands ∙ full-piece u (drop (at + length u) text) f
+
+  pub passes-full : at < length text
+      → grown (goodOf (valueOf u) (length u)) (pieces kindOf (drop (at + length u) text)) ≡ goodOf (valueOf u) (length u)
+      → Passes text at (at + length u)
+  passes-full h e =
+      let c : Character text at (goodOf (valueOf u) (length u)) = character-next text at h (sym e ∙ sym (ap characterFrom piece-front)) in
+      record { same = u; stands = stands; goes = rw (full-bytes u f) at (c .goes) }
+
+-- ---- ASCII
+
+pub low-passes : (text : List ℕ) (at : ℕ) → at < length text → getD text at 0 < 0x80 → Passes text at (at + 1)
+low-passes text at h l =
+    let a = getD text at 0 in
+    passes-full text at (a ∷ []) (rw add-one (drop-cons text at 0 h)) (full-by a (row-between 0x00 0x7F tt (omega arith) (omega arith)) ends) h
+    (stops (goodOf a 1) (pieces kindOf (drop (at + 1) text)) (λ b. pair-none a b (role-between 0x00 0x7F a tt (omega arith) (omega arith))))
+
+-- one byte in front of what passes
+low-on : (text : List ℕ) (at to : ℕ) → to ≡ at + 1 → getD text at 0 < 0x80 → {end : ℕ} → Passes text to end → Passes text at end
+low-on text at to e l p = passes-on (low-passes text at (omega (arith, p .goes .on, p .goes .inside)) l) (rw e at p)
+
+pub low-eight : (text : List ℕ) (at : ℕ) → at + 8 ≤ length text
+    → Low (getD text at 0) (getD text (at + 1) 0) (getD text (at + 2) 0) (getD text (at + 3) 0) (getD text (at + 4) 0) (getD text (at + 5) 0)
+    (getD text (at + 6) 0) (getD text (at + 7) 0)
+    → Passes text at (at + 8)
+low-eight text at h l =
+    low-on text at (at + 1) (omega arith) (l .first)
+    (low-on text (at + 1) (at + 2) (omega arith) (l .second)
+    (low-on text (at + 2) (at + 3) (omega arith) (l .third)
+    (low-on text (at + 3) (at + 4) (omega arith) (l .fourth)
+    (low-on text (at + 4) (at + 5) (omega arith) (l .fifth)
+    (low-on text (at + 5) (at + 6) (omega arith) (l .sixth)
+    (low-on text (at + 6) (at + 7) (omega arith) (l .seventh)
+    (low-on text (at + 7) (at + 8) (omega arith) (l .eighth) (passes-none text (at + 8) h))))))))
+
+-- ---- THREE BYTES, and behind them any byte but E1
+
+-- the first byte of a code point from 1000 to 1FFF
+pub letter-first : (u t : List ℕ) → kindOf u ≡ full → 0x1000 ≤ valueOf u → valueOf u < 0x2000 → getD (u ++ t) 0 0 ≡ 0xE1
+letter-first u t f l m =
+    let c = valueOf u in
+    let e : u ≡ (0xE0 + c / 4096) ∷ (0x80 + c / 64 % 64) ∷ (0x80 + c % 64) ∷ [] = sym (full-bytes u f) ∙ bytes-three c (omega arith) (omega arith) in
+    ap (λ (x : List ℕ). getD (x ++ t) 0 0) e ∙ omega arith
+
+-- the letters that join with what stands before them are such: before any other byte a character takes in nothing
+apart-reading : (c n : ℕ) {t : List ℕ} {P : List (Piece ℕ)} → Reading kindOf t P → (getD t 0 0 ≡ 0xE1 → ⊥) → grown (goodOf c n) P ≡ goodOf c n
+apart-reading c n nothing h = refl
+apart-reading c n (formed u {t} f r) h =
+    let no : 0x1000 ≤ valueOf u → valueOf u < 0x2000 → ⊥ = λ l m. h (letter-first u t f l m) in
+    rw (eq-eqb (pair c (valueOf u)) 0 (pair-before c (valueOf u)
+    (λ e. let k = peak-range (valueOf u) e in no (omega arith) (omega arith))
+    (λ e. let k = final-range (valueOf u) e in no (omega arith) (omega arith))))
+apart-reading c n (broken u m r) h =
+    rw (eq-eqb (pair c 0xFFFD) 0 (apart-ill c))
+
+pub apart-behind : (c n : ℕ) (t : List ℕ) → (getD t 0 0 ≡ 0xE1 → ⊥) → grown (goodOf c n) (pieces kindOf t) ≡ goodOf c n
+apart-behind c n t h = apart-reading c n (reading8 t) h
+
+-- a, b and c are well-formed
+three-full : {a b c d : ℕ} → Three a b c d → kindOf (a ∷ b ∷ c ∷ []) ≡ full
+three-full {a} {b} {c} h =
+    test (ltb a 0xED)
+    (λ q.
+    full-by a (row-between 0xE1 0xEC tt (omega (arith, h .least)) (omega (arith, ltb-true a 0xED q)))
+    (goes (h .second-least) (h .second-most) (goes (h .third-least) (h .third-most) ends)))
+    (λ q.
+    let e : a ≡ 0xED = omega (arith, h .most, ltb-false a 0xED q) in
+    full-by a (row-between 0xED 0xED tt (omega arith) (omega arith))
+    (goes (h .second-least) (h .second-ed e) (goes (h .third-least) (h .third-most) ends)))
+
+-- they stand in front
+pub three-stands : (text : List ℕ) (at : ℕ) → at + 3 ≤ length text
+    → drop at text ≡ getD text at 0 ∷ getD text (at + 1) 0 ∷ getD text (at + 2) 0 ∷ drop (at + 3) text
+three-stands text at h =
+    let two : at + 2 ≡ suc (suc at) = omega arith in
+    let three : at + 3 ≡ suc (suc (suc at)) = omega arith in
+    rw (
+      add-one,
+      two,
+      three,
+      drop-cons text at 0 (omega arith),
+      drop-cons text (suc at) 0 (omega arith),
+      drop-cons text (suc (suc at)) 0 (omega arith),
+    )
+
+pub three-passes : (text : List ℕ) (at : ℕ) → at + 3 ≤ length text → {d : ℕ} → d ≡ getD text (at + 3) 0
+    → Three (getD text at 0) (getD text (at + 1) 0) (getD text (at + 2) 0) d → Passes text at (at + 3)
+three-passes text at h e t =
+    let u = getD text at 0 ∷ getD text (at + 1) 0 ∷ getD text (at + 2) 0 ∷ [] in
+    let next : getD (drop (at + 3) text) 0 0 ≡ getD text (at + 3) 0 = getD-drop (at + 3) text 0 0 ∙ rw add-zero in
+    passes-full text at u (three-stands text at h) (three-full t) (omega arith)
+    (apart-behind (valueOf u) 3 (drop (at + 3) text) (λ z. t .apart (e ∙ sym next ∙ z)))
+
+-- ---- the test of eight bytes in one number
+
+-- where w and m have no bit in common, w has none that m has
+bit-none : (w m k : ℕ) → bitAnd w m ≡ 0 → m / 2 ^ k % 2 ≡ 1 → w / 2 ^ k % 2 ≡ 0
+bit-none w m k z e =
+    let x = w / 2 ^ k % 2 in
+    let n : bitAnd (w / 2 ^ k) (m / 2 ^ k) ≡ 0 = sym (and-shr w m k) ∙ rw (z, zero-div) in
+    let q : bitAnd x 1 ≡ 0 = rw (e, n) at (sym (and-mod (w / 2 ^ k) (m / 2 ^ k) 1)) in
+    omega (arith, q, and-mask x 1)
+
+-- the bits of w at 7, 15, .. are the highest of its bytes
+pub word-low : {a b c d e f g h w : ℕ} → a < 256 → b < 256 → c < 256 → d < 256 → e < 256 → f < 256 → g < 256 → h < 256 → w ≡ wordOf a b c d e f g h
+    → eqb (bitAnd w 0x8080808080808080) 0 ≡ true → Low a b c d e f g h
+word-low {w = w} ha hb hc hd he hf hg hh is q = record {
+  first = omega (arith, bit 7 refl);
+  second = omega (arith, bit 15 refl);
+  third = omega (arith, bit 23 refl);
+  fourth = omega (arith, bit 31 refl);
+  fifth = omega (arith, bit 39 refl);
+  sixth = omega (arith, bit 47 refl);
+  seventh = omega (arith, bit 55 refl);
+  eighth = omega (arith, bit 63 refl);
+}
+  where
+    bit : (k : ℕ) → 0x8080808080808080 / 2 ^ k % 2 ≡ 1 → w / 2 ^ k % 2 ≡ 0
+    bit k t = bit-none w 0x8080808080808080 k (eqb-true (bitAnd w 0x8080808080808080) 0 q) t

@@ -1,0 +1,266 @@
+-- A syllable that stands as single letters, by its bytes. In order: the bytes of a letter of the block 1100–11FF at an index, and back (`Letter`,
+-- `letter-bytes`, `bytes-letter`); a letter by its tail (`tail-short`, `tail-other`, `tail-three`); F of a final (`final-low`,
+-- `final-high`, `final-none`); a character that takes in what is read behind it (`grown-takes`, `grown-stays`); and a syllable of two letters and of
+-- three (`spelled-none`, `initial-inside`, `peak-inside`, `spelled-two`, `spelled-three`).
+-- Not here: which letters join (crate joining, proofs/Pairs). Assumes nothing.
+use mathlib.Core.Path.{_≡_, refl, sym, _∙_, ap}
+use mathlib.Core.Bool.{Bool, true, false, cond}
+use mathlib.Core.List.{List, [], _∷_, _++_}
+use Prim.Native.Nat.{ℕ, _+_, _-_, _*_, _/_, _%_, _≤_, _<_}
+use native.Mathlib.Nat.{add-zero}
+use native.Mathlib.Omega.{arith}
+use lib.Dec.{ltb, eqb}
+use lib.Seq.{getD-drop}
+use lib.ListN.{length, getD, drop, length-drop}
+use borrow.Author.Tests.{ltb-true, ltb-false, eq-eqb, ne-eqb}
+use Rattle.laws.specs.Ranges.{within}
+use Rattle.laws.specs.Pieces.{Piece, units, pieces}
+use Rattle.laws.specs.Damage.{codeOf}
+use Rattle.laws.specs.Readings.{Reading, nothing, formed, broken}
+use Rattle.laws.proofs.Bools.{test}
+use Rattle.laws.proofs.Ranges.{within-yes, within-least, within-most}
+use Rattle.answers.proofs.Checks.{good-low}
+use Rattle.joining.specs.Joining.{pair}
+use Rattle.joining.proofs.Roles.{initial-range, final-range}
+use Rattle.joining.proofs.Pairs.{two-letters, three-letters, pair-other, no-fourth}
+use Rattle.utf8.specs.Table37.{kindOf}
+use Rattle.utf8.specs.Utf8.{utf8, bytesOf, valueOf}
+use Rattle.utf8.specs.Reading.{goodOf, takenFrom}
+use Rattle.utf8.specs.declared.read.Taken.{Taken}
+use Rattle.utf8.proofs.Takes.{behind}
+use Rattle.utf8.proofs.Writing.{bytes-three, long-three}
+use Rattle.utf8.proofs.Reading.{reading8}
+use Rattle.utf8.proofs.Round.{full-bytes, bytes-piece, bytes-value}
+use Rattle.mending.specs.Characters.{meets, taking, grown, behindFirst, characterFrom}
+use Rattle.mending.specs.Steps.{tailOf, Tail, lastOf}
+use Rattle.mending.proofs.Characters.{apart-end, taken-code, taken-size, stops, behind-first}
+use Rattle.mending.proofs.Passes.{three-stands}
+
+-- ---- the bytes of a letter
+
+-- at an index stand the three bytes of c
+record Letter (text : List ℕ) (at c : ℕ) : Type 0 where
+  inside : at + 3 ≤ length text
+  first : getD text at 0 ≡ 0xE1
+  second : getD text (at + 1) 0 ≡ 0x80 + c / 64 % 64
+  third : getD text (at + 2) 0 ≡ 0x80 + c % 64
+
+module _ (c : ℕ) (least : 0x1100 ≤ c) (most : c ≤ 0x11FF) where
+  letter-reading : {t : List ℕ} {P : List (Piece ℕ)} → Reading kindOf t P → takenFrom P .code ≡ c → (rest : List ℕ) × (t ≡ bytesOf c ++ rest)
+  letter-reading nothing e = absurd (omega arith)
+  letter-reading (formed u {t} f r) e = (t, ap (λ (x : List ℕ). x ++ t) (sym (full-bytes u f) ∙ ap bytesOf e))
+  letter-reading (broken u m r) e = absurd (omega arith)
+
+  letter-first : bytesOf c ≡ 0xE1 ∷ (0x80 + c / 64 % 64) ∷ (0x80 + c % 64) ∷ []
+  letter-first =
+      let e : 0xE0 + c / 4096 ≡ 0xE1 = omega arith in
+      bytes-three c (omega arith) (omega arith) ∙ rw e
+
+  module _ (text : List ℕ) (at : ℕ) where
+    letter-stands : (rest : List ℕ) → drop at text ≡ bytesOf c ++ rest → Letter text at c
+    letter-stands rest q =
+        let e : drop at text ≡ 0xE1 ∷ (0x80 + c / 64 % 64) ∷ (0x80 + c % 64) ∷ rest = rw letter-first at q in
+        record {
+          inside = omega (arith, length-drop at text, ap length e);
+          first = ap (λ (k : ℕ). getD text k 0) (sym (add-zero at)) ∙ sym (getD-drop at text 0 0) ∙ ap (λ (l : List ℕ). getD l 0 0) e;
+          second = sym (getD-drop at text 1 0) ∙ ap (λ (l : List ℕ). getD l 1 0) e;
+          third = sym (getD-drop at text 2 0) ∙ ap (λ (l : List ℕ). getD l 2 0) e;
+        }
+
+    letter-bytes : takenFrom (pieces kindOf (drop at text)) .code ≡ c → Letter text at c
+    letter-bytes e =
+        let r = letter-reading (reading8 (drop at text)) e in
+        letter-stands (r .0) (r .1)
+
+    letter-taken-inside : goodOf c 3 ≡ takenFrom (pieces kindOf (drop at text)) → at + 3 ≤ length text
+    letter-taken-inside e = letter-bytes (sym (ap (λ (t : Taken). t .code) e)) .inside
+
+    bytes-letter : Letter text at c → takenFrom (pieces kindOf (drop at text)) ≡ goodOf c 3
+    bytes-letter l =
+        let s : drop at text ≡ bytesOf c ++ drop (at + 3) text =
+        three-stands text at (l .inside) ∙ rw (l .first, l .second, l .third, letter-first) in
+        ap (λ (x : List ℕ). takenFrom (pieces kindOf x)) s ∙ ap takenFrom (bytes-piece c (good-low c (omega arith)) (drop (at + 3) text))
+        ∙ rw (bytes-value c, ← (long-three c (omega arith) (omega arith)))
+
+-- ---- a letter by its tail
+
+module _ (text : List ℕ) (at : ℕ) where
+  -- 0 is no letter's tail: so it is where no letter stands
+  tail-none : ((c : ℕ) → 0x1100 ≤ c → c ≤ 0x11FF → Letter text at c → ⊥) → Tail text at 0
+  tail-none never = record {
+    is = λ c l m e. absurd (omega arith);
+    only = λ c l m e. absurd (never c l m (letter-bytes c l m text at e));
+  }
+
+  pub tail-short : length text - at < 3 → Tail text at 0
+  tail-short h = tail-none (λ c l m s. omega (arith, s .inside))
+
+  pub tail-other : (getD text at 0 ≡ 0xE1 → ⊥) → Tail text at 0
+  tail-other h = tail-none (λ c l m s. h (s .first))
+
+  pub tail-three : at + 3 ≤ length text → getD text at 0 ≡ 0xE1 → getD text (at + 1) 0 < 256 → getD text (at + 2) 0 < 256
+      → Tail text at (getD text (at + 1) 0 * 0x100 + getD text (at + 2) 0)
+  tail-three h e b d = record {
+    is = λ c l m q. bytes-letter c l m text at (record { inside = h; first = e; second = omega arith; third = omega arith });
+    only = λ c l m q. let s = letter-bytes c l m text at q in omega (arith, s .second, s .third);
+  }
+
+-- ---- F of a final
+
+last-yes : (c : ℕ) → 0x11A8 ≤ c → c ≤ 0x11C2 → lastOf c ≡ c - 0x11A7
+unfolding lastOf
+last-yes c l m = rw (within-yes 0x11A8 0x11C2 c l m)
+
+last-cases : {G : Type 0} (c : ℕ) → (0x11A8 ≤ c → c ≤ 0x11C2 → G) → (lastOf c ≡ 0 → G) → G
+unfolding lastOf
+last-cases c some none =
+    test (within 0x11A8 0x11C2 c) (λ q. some (within-least 0x11A8 0x11C2 c q) (within-most 0x11A8 0x11C2 c q)) (λ q. none (rw q))
+
+-- the finals' tails are two ranges
+tail-low : (c : ℕ) → 0x11A8 ≤ c → c ≤ 0x11BF → tailOf c ≡ 0x86A8 + (c - 0x11A8)
+tail-low c l m =
+    let q : c / 64 ≡ 0x46 = omega arith in
+    let r : c % 64 ≡ 0x28 + (c - 0x11A8) = omega arith in
+    rw (q, r) (omega arith)
+
+tail-high : (c : ℕ) → 0x11C0 ≤ c → c ≤ 0x11C2 → tailOf c ≡ 0x8780 + (c - 0x11C0)
+tail-high c l m =
+    let q : c / 64 ≡ 0x47 = omega arith in
+    let r : c % 64 ≡ c - 0x11C0 = omega arith in
+    rw (q, r) (omega arith)
+
+module _ (text : List ℕ) (at : ℕ) {r : ℕ} (tail : Tail text at r) where
+  final-some : (c : ℕ) → 0x11A8 ≤ c → c ≤ 0x11C2 → r ≡ tailOf c → lastOf (takenFrom (pieces kindOf (drop at text)) .code) ≡ c - 0x11A7
+  final-some c l m e = ap (λ (t : Taken). lastOf (t .code)) (tail .is c (omega arith) (omega arith) e) ∙ last-yes c l m
+
+  pub final-low : 0x86A8 ≤ r → r ≤ 0x86BF → r - 0x86A7 ≡ lastOf (takenFrom (pieces kindOf (drop at text)) .code)
+  final-low l m =
+      let c = 0x11A8 + (r - 0x86A8) in
+      omega (arith, final-some c (omega arith) (omega arith) (omega (arith, tail-low c (omega arith) (omega arith))))
+
+  pub final-high : 0x8780 ≤ r → r ≤ 0x8782 → r - 0x8780 + 25 ≡ lastOf (takenFrom (pieces kindOf (drop at text)) .code)
+  final-high l m =
+      let c = 0x11C0 + (r - 0x8780) in
+      omega (arith, final-some c (omega arith) (omega arith) (omega (arith, tail-high c (omega arith) (omega arith))))
+
+  -- no tail of a final
+  pub final-none : (0x86A8 ≤ r → r ≤ 0x86BF → ⊥) → (0x8780 ≤ r → r ≤ 0x8782 → ⊥) → 0 ≡ lastOf (takenFrom (pieces kindOf (drop at text)) .code)
+  final-none low high =
+      let c = takenFrom (pieces kindOf (drop at text)) .code in
+      last-cases c
+      (λ l m.
+      let e : r ≡ tailOf c = tail .only c (omega arith) (omega arith) refl in
+      test (ltb c 0x11C0)
+      (λ q.
+      let h = ltb-true c 0x11C0 q in
+      absurd (low (omega (arith, e, tail-low c l (omega arith))) (omega (arith, e, tail-low c l (omega arith)))))
+      (λ q.
+      let h = ltb-false c 0x11C0 q in
+      absurd (high (omega (arith, e, tail-high c h m)) (omega (arith, e, tail-high c h m)))))
+      (λ e. sym e)
+
+-- ---- a character that takes in what is read behind it
+
+module _ (t : Taken) (text : List ℕ) (n : ℕ) {next : Taken} (read : next ≡ takenFrom (pieces kindOf (drop n text))) where
+  takes-on : (P : List (Piece ℕ)) → pieces kindOf (drop n text) ≡ P → next ≡ takenFrom P → (pair (t .code) (next .code) ≡ 0 → ⊥)
+      → grown t P ≡ grown (record {
+        code =
+            pair (t .code) (next .code);
+        size = t .size + next .size;
+        ill = t .ill;
+      }) (pieces kindOf (drop (n + next .size) text))
+  takes-on [] e q h = absurd (h (ap (λ (x : Taken). pair (t .code) (x .code)) q ∙ apart-end (t .code)))
+  takes-on (w ∷ P) e q h =
+      let k : next .code ≡ codeOf utf8 w = ap (λ (x : Taken). x .code) q ∙ taken-code w P in
+      let s : next .size ≡ length (units w) = ap (λ (x : Taken). x .size) q ∙ taken-size w P in
+      rw (s, behind text n w P e, k) (rw (ne-eqb (meets t w) 0 (λ (z : meets t w ≡ 0). h (ap (pair (t .code)) k ∙ z))))
+
+  pub grown-takes : (pair (t .code) (next .code) ≡ 0 → ⊥)
+      → grown t (pieces kindOf (drop n text))
+      ≡ grown (record { code = pair (t .code) (next .code); size = t .size + next .size; ill = t .ill }) (pieces kindOf (drop (n + next .size) text))
+  grown-takes h = takes-on (pieces kindOf (drop n text)) refl read h
+
+  stays-on : (P : List (Piece ℕ)) → next ≡ takenFrom P → pair (t .code) (next .code) ≡ 0 → grown t P ≡ t
+  stays-on [] q h = refl
+  stays-on (w ∷ P) q h =
+      rw (eq-eqb (meets t w) 0 (ap (pair (t .code)) (sym (ap (λ (x : Taken). x .code) q ∙ taken-code w P)) ∙ h))
+
+  pub grown-stays : pair (t .code) (next .code) ≡ 0 → grown t (pieces kindOf (drop n text)) ≡ t
+  grown-stays h = stays-on (pieces kindOf (drop n text)) read h
+
+-- ---- a syllable in letters: a is the tail of an initial at an index, and b that of a peak behind it
+
+pub spelled-none : {r : Taken} {G : Type 0} → r ≡ goodOf 0 0 → (r .size ≡ 0 → ⊥) → G
+spelled-none e h = absurd (h (ap (λ (x : Taken). x .size) e))
+
+module _ (text : List ℕ) (at : ℕ) {a : ℕ} (first : Tail text at a) (a-least : 0x8480 ≤ a) (a-most : a ≤ 0x8492) where
+  initial-taken : goodOf (0x1100 + (a - 0x8480)) 3 ≡ takenFrom (pieces kindOf (drop at text))
+  initial-taken =
+      let q : (0x1100 + (a - 0x8480)) / 64 ≡ 0x44 = omega arith in
+      let m : (0x1100 + (a - 0x8480)) % 64 ≡ a - 0x8480 = omega arith in
+      sym (first .is (0x1100 + (a - 0x8480)) (omega arith) (omega arith) (rw (q, m) (omega arith)))
+
+  pub initial-inside : at + 3 ≤ length text
+  initial-inside = letter-taken-inside _ (omega arith) (omega arith) text at initial-taken
+
+  module _ {b : ℕ} (second : Tail text (at + 3) b) (b-least : 0x85A1 ≤ b) (b-most : b ≤ 0x85B5) where
+    peak-taken : goodOf (0x1161 + (b - 0x85A1)) 3 ≡ takenFrom (pieces kindOf (drop (at + 3) text))
+    peak-taken =
+        let q : (0x1161 + (b - 0x85A1)) / 64 ≡ 0x45 = omega arith in
+        let m : (0x1161 + (b - 0x85A1)) % 64 ≡ 0x21 + (b - 0x85A1) = omega arith in
+        sym (second .is (0x1161 + (b - 0x85A1)) (omega arith) (omega arith) (rw (q, m) (omega arith)))
+
+    pub peak-inside : at + 6 ≤ length text
+    peak-inside = omega (arith, letter-taken-inside _ (omega arith) (omega arith) text (at + 3) peak-taken)
+
+    pair-is : pair (0x1100 + (a - 0x8480)) (0x1161 + (b - 0x85A1)) ≡ 0xAC00 + (a - 0x8480) * 588 + (b - 0x85A1) * 28
+    pair-is = two-letters (a - 0x8480) (b - 0x85A1) (omega arith) (omega arith)
+
+    -- the two joined, and what stands behind them
+    pair-grown : characterFrom (pieces kindOf (drop at text))
+        ≡ grown (goodOf (0xAC00 + (a - 0x8480) * 588 + (b - 0x85A1) * 28) 6) (pieces kindOf (drop (at + 6) text))
+    pair-grown =
+        let six : at + 3 + 3 ≡ at + 6 = omega arith in
+        let n : pair (0x1100 + (a - 0x8480)) (0x1161 + (b - 0x85A1)) ≡ 0 → ⊥ = λ z. omega (arith, pair-is) in
+        ap (λ (t : Taken). grown t (behindFirst (pieces kindOf (drop at text)))) (sym initial-taken)
+        ∙ ap (grown (goodOf (0x1100 + (a - 0x8480)) 3)) (sym (behind-first text at initial-taken))
+        ∙ grown-takes (goodOf (0x1100 + (a - 0x8480)) 3) text (at + 3) peak-taken n ∙ rw (six, pair-is)
+
+    -- f is F of what stands behind them
+    module _ {f : ℕ} (found : f ≡ lastOf (takenFrom (pieces kindOf (drop (at + 6) text)) .code)) where
+      -- it is no final
+      last-apart : (c : ℕ) → lastOf c ≡ 0 → pair (0xAC00 + (a - 0x8480) * 588 + (b - 0x85A1) * 28) c ≡ 0
+      last-apart c z =
+          pair-other _ c (λ e q. let r =
+          initial-range _ e in omega (arith, r .1)) (λ e q. let r = final-range c q in omega (arith, z, last-yes c (r .0) (r .1)))
+
+      pub spelled-two : f ≡ 0 → goodOf (0xAC00 + (a - 0x8480) * 588 + (b - 0x85A1) * 28) 6 ≡ characterFrom (pieces kindOf (drop at text))
+      spelled-two e =
+          sym (pair-grown ∙ grown-stays (goodOf (0xAC00 + (a - 0x8480) * 588 + (b - 0x85A1) * 28) 6) text (at + 6) refl
+          (last-apart _ (sym found ∙ e)))
+
+      -- it is the final 11A7 + f
+      last-taken : (f ≡ 0 → ⊥) → goodOf (0x11A7 + f) 3 ≡ takenFrom (pieces kindOf (drop (at + 6) text))
+      last-taken h =
+          let c = takenFrom (pieces kindOf (drop (at + 6) text)) .code in
+          last-cases c
+          (λ l m.
+          let e : 0x11A7 + f ≡ c = omega (arith, found, last-yes c l m) in
+          rw e (sym (bytes-letter c (omega arith) (omega arith) text (at + 6) (letter-bytes c (omega arith) (omega arith) text (at + 6) refl))))
+          (λ z. absurd (h (found ∙ z)))
+
+      pub last-few : f < 28
+      last-few =
+          let c = takenFrom (pieces kindOf (drop (at + 6) text)) .code in
+          last-cases c (λ l m. omega (arith, found, last-yes c l m)) (λ z. omega (arith, found, z))
+
+      pub spelled-three : (f ≡ 0 → ⊥) → goodOf (0xAC00 + (a - 0x8480) * 588 + (b - 0x85A1) * 28 + f) 9 ≡ characterFrom (pieces kindOf (drop at text))
+      spelled-three h =
+          let k : 0 < f = omega (arith, h) in
+          let t : pair (0xAC00 + (a - 0x8480) * 588 + (b - 0x85A1) * 28) (0x11A7 + f) ≡ 0xAC00 + (a - 0x8480) * 588 + (b - 0x85A1) * 28 + f =
+          rw pair-is at (three-letters (a - 0x8480) (b - 0x85A1) f (omega arith) (omega arith) k last-few) in
+          let n : pair (0xAC00 + (a - 0x8480) * 588 + (b - 0x85A1) * 28) (0x11A7 + f) ≡ 0 → ⊥ = λ z. omega (arith, t) in
+          let d : (d : ℕ) → pair (0xAC00 + (a - 0x8480) * 588 + (b - 0x85A1) * 28 + f) d ≡ 0 =
+          λ d. rw (pair-is, t) at (no-fourth (0x1100 + (a - 0x8480)) (0x1161 + (b - 0x85A1)) (0x11A7 + f) d) in
+          sym (pair-grown ∙ grown-takes (goodOf (0xAC00 + (a - 0x8480) * 588 + (b - 0x85A1) * 28) 6) text (at + 6) (last-taken h) n
+          ∙ rw t (stops (goodOf (0xAC00 + (a - 0x8480) * 588 + (b - 0x85A1) * 28 + f) 9) (pieces kindOf (drop (at + 6 + 3) text)) d))

@@ -1,0 +1,212 @@
+-- One turn of the loops over a text, and the loops. In order: the bytes between two indices, copied one by one (`Copying` and its laws); a part that
+-- passes by its length (`passes-length`); a turn that writes: a character has room and was written (`fits-placed`, `character-fits`,
+-- `character-moved`), so with bytes that pass (`passes-room`, `passes-moved`); a turn that counts (`count-fits`, `count-character`, `passes-count`,
+-- `count-passes`); and what the two loops keep (`Writing`, `Tallying`, with their laws) up to the end (`mended-end`).
+-- Not here: what a character is (proofs/Characters), which bytes pass (proofs/Passes), how long a mended text is at most (proofs/Bound).
+-- Assumes nothing.
+use mathlib.Core.Path.{_≡_, refl, sym, _∙_, ap}
+use mathlib.Core.List.{List, [], _∷_, _++_, append-assoc}
+use Prim.Native.Nat.{ℕ, _+_, _-_, _*_, _≤_, _<_}
+use native.Mathlib.Numerals.{add-one}
+use native.Mathlib.Omega.{arith}
+use lib.Seq.{drop-cons}
+use lib.ListN.{length, getD, drop, set, length-append, length-drop, drop-of-length-le}
+use Rattle.laws.specs.Writing.{Room, Wrote, Fronts}
+use Rattle.laws.proofs.Lists.{cut-front, each-nil}
+use Rattle.laws.proofs.Filling.{Filling, Counting, wrote-one, wrote-none, wrote-two, wrote-length, counting-none, counting-more, counting-all}
+use Rattle.laws.proofs.Filling.{filling-none, filling-count, filling-length, filling-more, filling-all}
+use Rattle.answers.proofs.Checks.{good-most}
+use Rattle.utf8.specs.Utf8.{bytesOf, illText, fitting}
+use Rattle.utf8.specs.Reading.{ReadFronts}
+use Rattle.utf8.specs.declared.read.Taken.{Taken}
+use Rattle.utf8.proofs.Writing.{fitting-all}
+use Rattle.utf8.proofs.Reading.{read-most, ills-most}
+use Rattle.mending.specs.Mending.{mended}
+use Rattle.mending.specs.Steps.{Goes, Passes, Copies, Ready, Moved, Fits, Placed, CountReady, CountMoved, CountFits, CountPlaced}
+use Rattle.mending.specs.declared.text.At.{At}
+use Rattle.mending.specs.declared.text.Count.{Count}
+use Rattle.mending.proofs.Characters.{Character}
+
+-- ---- copying
+
+-- the bytes from `at` to `read` are written from k₀ on
+pub record Copying (text : List ℕ) (at read : ℕ) (out₀ : List ℕ) (k₀ : ℕ) (out : List ℕ) (k : ℕ) : Type 0 where
+  pub done : List ℕ
+  pub stands : drop at text ≡ done ++ drop read text
+  pub wrote : Wrote out₀ k₀ done k out
+
+module _ (text : List ℕ) {at : ℕ} {out₀ : List ℕ} {k₀ : ℕ} where
+  pub copying-none : Copying text at at out₀ k₀ out₀ k₀
+  copying-none = record { done = []; stands = refl; wrote = wrote-none refl }
+
+  module _ {read : ℕ} {out : List ℕ} {k : ℕ} (c : Copying text at read out₀ k₀ out k) where
+    pub copying-index : at ≤ read → read ≤ length text → k ≡ k₀ + (read - at)
+    copying-index h l =
+        omega (arith, c .wrote .behind, simp length-append at (ap length (c .stands)), length-drop at text, length-drop read text)
+
+    pub copying-length : length out ≡ length out₀
+    copying-length = wrote-length (c .wrote)
+
+    pub copying-more : read < length text → Copying text at (read + 1) out₀ k₀ (set out k (getD text read 0)) (k + 1)
+    copying-more h = record {
+      done = c .done ++ (getD text read 0 ∷ []);
+      stands = rw (add-one, append-assoc) (c .stands ∙ ap (λ (l : List ℕ). c .done ++ l) (drop-cons text read 0 h));
+      wrote = wrote-two (record { eq = refl }) (c .wrote) (wrote-one refl);
+    }
+
+    copied : Copies text at read out₀ k₀ k out
+    copied = record {
+      wrote = λ xs e.
+          let q : c .done ++ drop read text ≡ xs ++ drop read text = sym (c .stands) ∙ e in
+          let n : length (c .done) ≡ length xs = omega (arith, simp length-append at (ap length q)) in
+          rw (← (cut-front (c .done) (drop read text) xs (drop read text) q n)) (c .wrote);
+    }
+
+    pub copying-all : {to : ℕ} → read ≤ to → to ≤ read → Copies text at to out₀ k₀ k out
+    copying-all {to} h l =
+        let e : to ≡ read = omega arith in
+        rw e copied
+
+-- ---- a part that passes
+
+pub passes-length : (text : List ℕ) {at to : ℕ} (p : Passes text at to) → at + length (p .same) ≡ to
+passes-length text {at} {to} p =
+    omega (
+      arith,
+      simp length-append at (ap length (p .stands)),
+      length-drop at text,
+      length-drop to text,
+      p .goes .on,
+      p .goes .inside,
+    )
+
+goes-length : {text : List ℕ} {at to : ℕ} {xs : List ℕ} {n : ℕ} → Goes text at to xs n
+    → length (mended (drop at text)) ≡ length xs + length (mended (drop to text))
+goes-length g = simp length-append at (ap length (g .mends))
+
+-- ---- a turn that writes
+
+pub fits-placed : {out : List ℕ} {s : At} {t : Taken} → Fits out s t → {k : ℕ} {out′ : List ℕ}
+    → Wrote out (s .written) (fitting (t .code) out (s .written)) k out′
+    → Placed out s t (record { read = s .read + t .size; written = k; ills = s .ills + t .ill }) out′
+fits-placed {out} {s} {t} f w =
+    record { wrote = rw (fitting-all (t .code) out (s .written) (f .code) (f .room .fits)) at w; read = refl; ills = refl }
+
+module _ {text out : List ℕ} {s : At} where
+  pub character-fits : Ready text out s → {t : Taken} → Character text (s .read) t → Fits out s t
+  character-fits h {t} c = record {
+    room = record { fits = omega (arith, h .room, goes-length (c .goes)) };
+    code = good-most (t .code) (c .is-good);
+    size = omega (arith, c .goes .inside, h .limit);
+    ill = omega (arith, h .ills, h .limit, c .goes .ills, ills-most text, read-most text);
+  }
+
+  pub character-moved : {t : Taken} → Character text (s .read) t → {r : At} {out′ : List ℕ} → Placed out s t r out′ → Moved text out s r out′
+  character-moved {t} c p = record {
+    xs = bytesOf (t .code);
+    n = t .ill;
+    goes = rw (p .read) (c .goes);
+    more = omega (arith, p .read, c .more);
+    wrote = p .wrote;
+    ills = p .ills;
+  }
+
+  pub passes-room : Ready text out s → {to : ℕ} → Passes text (s .read) to → s .written + (to - s .read) ≤ length out
+  passes-room h p = omega (arith, h .room, goes-length (p .goes), passes-length text p)
+
+  pub passes-moved : {to : ℕ} → Passes text (s .read) to → (to ≡ s .read → ⊥) → {k : ℕ} {out′ : List ℕ}
+      → Copies text (s .read) to out (s .written) k out′ → Moved text out s (record { read = to; written = k; ills = s .ills }) out′
+  passes-moved {to} p n w = record {
+    xs = p .same;
+    n = 0;
+    goes = p .goes;
+    more = omega (arith, p .goes .on, n);
+    wrote = w .wrote (p .same) (p .stands);
+    ills = omega arith;
+  }
+
+-- ---- a turn that counts
+
+module _ {text : List ℕ} {s : Count} where
+  pub count-fits : CountReady text s → {t : Taken} → Character text (s .read) t → CountFits s t
+  count-fits h {t} c = record {
+    size = omega (arith, c .goes .inside, h .limit);
+    fits = omega (arith, h .fits, goes-length (c .goes));
+  }
+
+  pub count-character : {t : Taken} → Character text (s .read) t → {r : Count} → CountPlaced s t r → CountMoved text s r
+  count-character {t} c p =
+      record { xs = bytesOf (t .code); n = t .ill; goes = rw (p .read) (c .goes); more = omega (arith, p .read, c .more); counts = p .counts }
+
+  pub passes-count : CountReady text s → {to : ℕ} → Passes text (s .read) to → s .length + (to - s .read) ≤ 49152
+  passes-count h p = omega (arith, h .fits, goes-length (p .goes), passes-length text p)
+
+  pub count-passes : {to : ℕ} → Passes text (s .read) to → (to ≡ s .read → ⊥)
+      → CountMoved text s (record { read = to; length = s .length + (to - s .read) })
+  count-passes {to} p n = record {
+    xs = p .same;
+    n = 0;
+    goes = p .goes;
+    more = omega (arith, p .goes .on, n);
+    counts = omega (arith, passes-length text p);
+  }
+
+-- ---- the loops
+
+pub mended-end : (text : List ℕ) (at : ℕ) → length text ≤ at → mended (drop at text) ≡ []
+unfolding mended
+mended-end text at h = rw (drop-of-length-le text h) (each-nil bytesOf)
+
+-- what the loop that writes keeps
+pub record Writing (text out₀ out : List ℕ) (s : At) : Type 0 where
+  pub inside : s .read ≤ length text
+  pub filling : Filling (mended text) (mended (drop (s .read) text)) out₀ out (s .written)
+  pub ills : s .ills + illText (drop (s .read) text) ≡ illText text
+
+module _ (text : List ℕ) {out₀ : List ℕ} where
+  pub writing-none : Writing text out₀ out₀ (record { read = 0; written = 0; ills = 0 })
+  writing-none = record { inside = omega arith; filling = filling-none (mended text) out₀; ills = omega arith }
+
+  module _ {out : List ℕ} {s : At} (w : Writing text out₀ out s) where
+    pub writing-ready : length text ≤ 16384 → length (mended text) ≤ length out₀ → s .read < length text → Ready text out s
+    writing-ready l f h = record {
+      inside = h;
+      room = omega (arith, filling-count (w .filling), filling-length f (w .filling));
+      ills = w .ills;
+      limit = l;
+    }
+
+    pub writing-more : length (mended text) ≤ length out₀ → {r : At} {out′ : List ℕ} → Moved text out s r out′ → Writing text out₀ out′ r
+    writing-more f m = record {
+      inside = m .goes .inside;
+      filling = filling-more f (w .filling) (record { eq = m .goes .mends }) (m .wrote);
+      ills = omega (arith, w .ills, m .ills, m .goes .ills);
+    }
+
+    pub writing-all : length text ≤ s .read → ReadFronts mended text out₀ (record { length = s .written; ills = s .ills }) out
+    writing-all h = record {
+      fronts = filling-all (w .filling) (mended-end text (s .read) h);
+      ills = omega (arith, rw (drop-of-length-le text h) at (w .ills));
+    }
+
+-- and the one that counts
+pub record Tallying (text : List ℕ) (s : Count) : Type 0 where
+  pub inside : s .read ≤ length text
+  pub counting : Counting (mended text) (mended (drop (s .read) text)) (s .length)
+
+module _ (text : List ℕ) where
+  pub tallying-none : Tallying text (record { read = 0; length = 0 })
+  tallying-none = record { inside = omega arith; counting = counting-none (mended text) }
+
+  module _ {s : Count} (w : Tallying text s) where
+    pub tallying-ready : length text ≤ 16384 → length (mended text) ≤ 3 * length text → s .read < length text → CountReady text s
+    tallying-ready l f h = record { inside = h; fits = omega (arith, w .counting .sum); limit = l }
+
+    pub tallying-more : {r : Count} → CountMoved text s r → Tallying text r
+    tallying-more m = record {
+      inside = m .goes .inside;
+      counting = rw (m .counts) (counting-more {xs = m .xs} (w .counting) (record { eq = m .goes .mends }) refl);
+    }
+
+    pub tallying-all : length text ≤ s .read → s .length ≡ length (mended text)
+    tallying-all h = counting-all (w .counting) (mended-end text (s .read) h)

@@ -1,0 +1,27 @@
+-- What C is told (include/pulphopper.h): a verdict in the three numbers of an answer, and the contract of each call.
+-- Not here: the verdicts (crate answers), what a call makes (the crates below). Assumes nothing.
+use mathlib.Core.Path.{_≡_}
+use mathlib.Core.List.{List}
+use Prim.Native.Nat.{ℕ}
+use Rattle.answers.specs.Checks.{takesBytes}
+use Rattle.answers.specs.Verdicts.{Verdict, done, refused, verdict, after, fits}
+use Rattle.answers.specs.Answers.{told}
+use Rattle.answers.specs.declared.Refusal.{Refusal}
+use Rattle.utf8.specs.Reading.{countedOf}
+use Rattle.utf8.specs.declared.read.Counted.{Counted}
+use Rattle.mending.specs.Mending.{mended}
+use Rattle.pulphopper.specs.declared.Answer.{Answer}
+
+-- a refusal: its number, its place, and count 0
+abbrev pub refusedAnswer : Refusal → Answer
+refusedAnswer r = record { refusal = told r .number; count = 0; value = told r .place }
+
+-- a verdict of a call that reads bytes: the value is a length, and the count that of the ill-formed subparts
+abbrev pub countedAnswer : Verdict Counted → Answer
+countedAnswer (done c) = record { refusal = 0; count = c .ills; value = c .length }
+countedAnswer (refused number place) = record { refusal = number; count = 0; value = place }
+
+-- THE CONTRACT of mending for C: 1, then 3
+pub record Mends (text out : List ℕ) (r : Answer) (out′ : List ℕ) : Type 0 where
+  pub answers : r ≡ countedAnswer (verdict (fits (takesBytes text) (mended text) out) (countedOf mended text))
+  pub leaves : out′ ≡ after (fits (takesBytes text) (mended text) out) (mended text) out

@@ -1,0 +1,41 @@
+// Pulphopper's calls for C: include/pulphopper.h declares and documents them.
+// Only the answers' form is made here; the work is that of the crates below.
+use answers::Refusal;
+use utf8::read::Read;
+ghost use mathlib.Core.Path.{_≡_};
+ghost use Rattle.pulphopper.specs.Replies.{refusedAnswer, Mends};
+
+// The answer of every call. A refusal is its number, and value its place; 0 is none.
+#[repr(C)]
+pub struct Answer {
+    pub refusal: u32,
+    pub count: u32,
+    pub value: u64,
+}
+
+fn refused(refusal: Refusal) -> Answer
+    ensures { λ r. ⌜ r ≡ refusedAnswer refusal ⌝ }
+{
+    let told = answers::tell(refusal);
+    Answer {
+        refusal: told.number,
+        count: 0,
+        value: told.place as u64,
+    }
+}
+
+// Mends a text of bytes: value is the bytes written, count the ill-formed subparts.
+#[no_mangle]
+pub extern "C" fn pulphopper_mend(text: &[u8], out: &mut [u8]) -> Answer
+    ensures { λ r. ⌜ Mends (now (text .entry)) (now (out .entry)) r (now (out .exit)) ⌝ }
+{
+    let answer = mending::text::mend(text, out);
+    match answer {
+        Read::Done(counted) => Answer {
+            refusal: 0,
+            count: counted.ills as u32,
+            value: counted.length as u64,
+        },
+        Read::Refused(refusal) => refused(refusal),
+    }
+}

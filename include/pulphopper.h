@@ -1,0 +1,59 @@
+/* Pulphopper: Hangul text for berth plans, for C99 and C++. Every call takes every input, checks it itself, and ends; what each promises is
+   proved (docs/PROMISES.md). No call allocates, keeps anything from one call to the next, or writes anywhere but to the buffer lent to it. */
+#ifndef PULPHOPPER_H
+#define PULPHOPPER_H
+
+#include <stddef.h>
+#include <stdint.h>
+
+#ifdef __cplusplus
+extern "C" {
+#endif
+
+/* What the caller must keep, since no callee can check it:
+
+   - a pointer is good for the bytes that the length beside it says; NULL only with length 0;
+   - the buffers of one call do not overlap: a text is not mended in place.
+
+         WRONG   pulphopper_mend(label, length, label, sizeof label);
+
+         RIGHT   uint8_t mended[3 * sizeof label];
+                 pulphopper_mend(label, length, mended, sizeof mended);
+
+   A text that is over the limit is refused before a byte of it is read, whatever its length, up to SIZE_MAX. */
+
+/* The answer of every call. refusal 0: the call is done, and `value` and `count` are what the call says. Else `refusal` is the number, `value` its
+   place, `count` is 0, and no byte of any buffer has changed. */
+typedef struct pulphopper_answer {
+    uint32_t refusal;
+    uint32_t count;
+    uint64_t value;
+} pulphopper_answer;
+
+enum {
+    PULPHOPPER_DONE = 0,
+    PULPHOPPER_OVER_LIMIT = 1, /* the text is over the limit; value: the limit */
+    PULPHOPPER_NO_ROOM = 3     /* the buffer is too small; value: the length needed */
+};
+
+/* The most bytes of a text. */
+#define PULPHOPPER_LIMIT 16384
+
+/* Mends a text. It is read as UTF-8, each ill-formed maximal subpart as one U+FFFD; Hangul letters are joined to syllables, as in NFC; and it is
+   written as UTF-8 to the front of `out`, of which the rest stays as it was. So a name in finished syllables and the same name in single letters
+   give the same bytes.
+
+     text, text_len   the bytes; at most PULPHOPPER_LIMIT of them
+     out, out_len     the buffer; three bytes for each byte of the text always do
+     value            how many bytes were written
+     count            how many ill-formed subparts there were; a U+FFFD that stood in the text is none
+
+   Refuses PULPHOPPER_OVER_LIMIT, then PULPHOPPER_NO_ROOM. To learn the length needed, lend NULL and 0: either the mended text is empty, or the
+   refusal says it. A mended text can be longer than the limit, where it was ill-formed; mending any other again changes nothing. */
+pulphopper_answer pulphopper_mend(const uint8_t *text, size_t text_len, uint8_t *out, size_t out_len);
+
+#ifdef __cplusplus
+}
+#endif
+
+#endif
