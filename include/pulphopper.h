@@ -22,8 +22,8 @@ extern "C" {
 
    A text that is over the limit is refused before a byte of it is read, whatever its length, up to SIZE_MAX. */
 
-/* The answer of every call. refusal 0: the call is done, and `value` and `count` are what the call says. Else `refusal` is the number, `value` its
-   place, `count` is 0, and no byte of any buffer has changed. */
+/* The answer of every call. refusal 0: the call is done, and `value` and `count` are what the call says, 0 where it says nothing. Else `refusal` is
+   the number, `value` its place, `count` is 0, and no byte of any buffer has changed. */
 typedef struct pulphopper_answer {
     uint32_t refusal;
     uint32_t count;
@@ -32,12 +32,17 @@ typedef struct pulphopper_answer {
 
 enum {
     PULPHOPPER_DONE = 0,
-    PULPHOPPER_OVER_LIMIT = 1, /* the text is over the limit; value: the limit */
-    PULPHOPPER_NO_ROOM = 3     /* the buffer is too small; value: the length needed */
+    PULPHOPPER_OVER_LIMIT = 1,  /* the text is over the limit; value: the limit */
+    PULPHOPPER_NO_ROOM = 3,     /* the buffer is too small; value: the length needed */
+    PULPHOPPER_NO_SYLLABLE = 4, /* what is to be named is no syllable; value: 0 */
+    PULPHOPPER_NO_NAME = 5      /* the bytes are no syllable's name; value: 0 */
 };
 
 /* The most bytes of a text. */
 #define PULPHOPPER_LIMIT 16384
+
+/* The most bytes of a name. */
+#define PULPHOPPER_NAME_MOST 23
 
 /* Mends a text. It is read as UTF-8, each ill-formed maximal subpart as one U+FFFD; Hangul letters are joined to syllables, as in NFC; and it is
    written as UTF-8 to the front of `out`, of which the rest stays as it was. So a name in finished syllables and the same name in single letters
@@ -51,6 +56,18 @@ enum {
    Refuses PULPHOPPER_OVER_LIMIT, then PULPHOPPER_NO_ROOM. To learn the length needed, lend NULL and 0: either the mended text is empty, or the
    refusal says it. A mended text can be longer than the limit, where it was ill-formed; mending any other again changes nothing. */
 pulphopper_answer pulphopper_mend(const uint8_t *text, size_t text_len, uint8_t *out, size_t out_len);
+
+/* Writes the name of a syllable to the front of `out`: "HANGUL SYLLABLE " and three strings, 17 to 23 bytes, as the Unicode Standard names it.
+     code             the syllable, U+AC00 to U+D7A3
+     out, out_len     the buffer; PULPHOPPER_NAME_MOST bytes always do
+     value            how many bytes were written
+   Refuses PULPHOPPER_NO_SYLLABLE (4, value 0), then PULPHOPPER_NO_ROOM (3). */
+pulphopper_answer pulphopper_name(uint32_t code, uint8_t *out, size_t out_len);
+
+/* Reads a name, as pulphopper_name writes it: only these capitals, with nothing before or behind.
+     value            the syllable
+   Refuses PULPHOPPER_OVER_LIMIT (1), then PULPHOPPER_NO_NAME (5, value 0). */
+pulphopper_answer pulphopper_read_name(const uint8_t *name, size_t name_len);
 
 #ifdef __cplusplus
 }

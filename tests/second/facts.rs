@@ -7,6 +7,7 @@ use crate::kinds::{kind_of, Kind, TABLE};
 use crate::letter_facts;
 use crate::letters::{answer_of_text, Refusal};
 use crate::mending_facts;
+use crate::naming_facts;
 use crate::published;
 use crate::random::Random;
 use crate::reading_cases::READING;
@@ -37,6 +38,7 @@ pub fn all() -> Facts {
     joining_facts::state_all(&mut facts);
     utf8_facts::state_all(&mut facts);
     mending_facts::state_all(&mut facts);
+    naming_facts::state_all(&mut facts);
     files_of_normalization_tests(&mut facts);
     frames(&mut facts);
     frames_of_answers(&mut facts);
@@ -223,7 +225,7 @@ fn stored_cases(facts: &mut Facts) {
         .copied()
         .flat_map(|kind| (kind.stored)())
         .collect();
-    for refusal in [0, 2, 3] {
+    for refusal in [0, 2, 3, 4, 5] {
         let stored = calls
             .iter()
             .any(|call| (kind_of(call).answer)(call).refusal == refusal);

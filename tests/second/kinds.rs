@@ -5,6 +5,8 @@ use crate::cases;
 use crate::joining_cases;
 use crate::letters::Refusal;
 use crate::mending_cases;
+use crate::name_reading_cases;
+use crate::naming_cases;
 use crate::random::Random;
 use crate::reading_cases;
 use crate::texts;
@@ -42,6 +44,8 @@ pub const TABLE: &[&Kind] = &[
     &cases::ONE_STEP,
     &cases::FULL_PARTS,
     &joining_cases::JOINING,
+    &naming_cases::NAMING,
+    &name_reading_cases::NAME_READING,
     &reading_cases::READING,
     &writing_cases::WRITING,
     &mending_cases::MENDING,

@@ -16,7 +16,13 @@ mod mending;
 mod mending_cases;
 mod mending_facts;
 mod mending_texts;
+mod name_reading_cases;
+mod name_texts;
+mod naming;
+mod naming_cases;
+mod naming_facts;
 mod published;
+mod published_names;
 mod random;
 mod reading_cases;
 mod run;
@@ -38,6 +44,7 @@ const USAGE: &str = "usage:
   second all PROGRAM [--under EMULATOR]
   second stops PROGRAM [--under EMULATOR]
   second published PROGRAM FILE_OF_NORMALIZATION_TESTS [--under EMULATOR]
+  second names PROGRAM FILE_OF_DERIVED_NAMES [--under EMULATOR]
   second store FOLDER
   second show FILE_OF_CALLS FILE_OF_ANSWERS
   second self
@@ -136,6 +143,11 @@ fn published(path: &str, file: &str, words: &[String]) -> Result<ExitCode, Strin
     Ok(verdict(published::check(&program, file)))
 }
 
+fn derived_names(path: &str, file: &str, words: &[String]) -> Result<ExitCode, String> {
+    let program = options(words, &["--under"])?.program(path);
+    Ok(verdict(published_names::check(&program, file)))
+}
+
 fn show(calls: &str, answers: &str) -> Result<ExitCode, String> {
     let outcome = store::show(calls, answers);
     Ok(outcome.map_or_else(
@@ -163,6 +175,7 @@ fn command(words: &[String]) -> Result<ExitCode, String> {
         ["all", path, ..] => exhaustive(path, &words[2..]),
         ["stops", path, ..] => stops(path, &words[2..]),
         ["published", path, file, ..] => published(path, file, &words[3..]),
+        ["names", path, file, ..] => derived_names(path, file, &words[3..]),
         ["store", folder] => Ok(verdict(Ok(store::store(folder)?))),
         ["show", calls, answers] => show(calls, answers),
         ["self"] => Ok(own_facts()),

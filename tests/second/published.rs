@@ -8,7 +8,7 @@ use crate::kinds::{in_buffer, kind_of};
 use crate::letters::in_repertoire;
 use crate::run::Program;
 use crate::text_kinds::TextKind;
-use crate::wire::{Call, Width};
+use crate::wire::{Answer, Call, Width};
 use crate::words;
 use std::collections::HashSet;
 use std::fs;
@@ -62,11 +62,11 @@ const COMPATIBILITY: [Rule; 2] = [
     },
 ];
 
-/// One call, what the file says to it, and where it says so.
-struct Trial {
-    place: String,
-    call: Call,
-    expected: Vec<u32>,
+/// One call, what a file says to it, and where it says so.
+pub struct Trial {
+    pub place: String,
+    pub call: Call,
+    pub published: Answer,
 }
 
 impl Line {
@@ -96,10 +96,11 @@ impl Line {
 /// The room is enough for any answer that could be right.
 fn trial(place: String, form: &TextKind, text: &[u32], expected: &[u32]) -> Trial {
     let room = expected.len().max(form.growth * text.len());
+    let call = form.call(text, room);
     Trial {
         place,
-        call: form.call(text, room),
-        expected: expected.to_vec(),
+        published: in_buffer(&call, Width::Number, Ok(expected.to_vec())),
+        call,
     }
 }
 
@@ -142,11 +143,11 @@ fn lines_of(text: &str) -> Result<Vec<Line>, String> {
 }
 
 /// The file's own name and version, where its first and last lines are as published.
-fn version(text: &str) -> Result<&str, String> {
+pub fn version<'text>(text: &'text str, expected: &str) -> Result<&'text str, String> {
     let first = text.lines().next().unwrap_or("");
     let title = first.trim_start_matches('#').trim();
-    if !title.starts_with(TITLE) {
-        return Err(format!("its first line does not say {TITLE}"));
+    if !title.starts_with(expected) {
+        return Err(format!("its first line does not say {expected}"));
     }
     if text.lines().last() != Some(END) {
         return Err(format!("its last line is not {END}"));
@@ -182,7 +183,7 @@ pub struct Trials {
 
 /// An error tells that this is not the file, or not the whole of it.
 pub fn trials_of(text: &str) -> Result<Trials, String> {
-    let version = version(text)?.to_string();
+    let version = version(text, TITLE)?.to_string();
     let lines = lines_of(text)?;
     if !lines.iter().any(|line| line.in_part_one) {
         return Err(format!("it has no {PART_ONE} with lines"));
@@ -216,40 +217,48 @@ pub fn trials_of(text: &str) -> Result<Trials, String> {
 /// Where the definition here parts from the file. Where none does, a program that agrees with the
 /// definitions agrees with the file.
 fn own_difference(trial: &Trial) -> Option<String> {
-    let call = &trial.call;
+    let Trial {
+        place,
+        call,
+        published,
+    } = trial;
     let kind = kind_of(call);
-    let published = in_buffer(call, Width::Number, Ok(trial.expected.clone()));
     let own = (kind.answer)(call);
-    if own == published {
+    if own == *published {
         return None;
     }
     let question = words::call_in_words(kind, call);
-    let mut report = format!("{}: {question}\n", trial.place);
+    let mut report = format!("{place}: {question}\n");
     report += &format!(
         "  published {}\n",
-        words::answer_in_words(kind, call, &published)
+        words::answer_in_words(kind, call, published)
     );
     report += &format!("  here      {}", words::answer_in_words(kind, call, &own));
     Some(report)
+}
+
+/// Gives the number of calls that agree, or reports on what differs.
+pub fn try_all(program: &Program, trials: Vec<Trial>) -> Result<usize, Vec<String>> {
+    let reports = trials.iter().filter_map(own_difference);
+    let reports: Vec<String> = reports.take(MOST_REPORTED).collect();
+    if !reports.is_empty() {
+        return Err(reports);
+    }
+    let calls: Vec<Call> = trials.into_iter().map(|trial| trial.call).collect();
+    let reports = differences(program, &calls);
+    if !reports.is_empty() {
+        return Err(reports);
+    }
+    Ok(calls.len())
 }
 
 /// Gives the closing line, or reports on what differs.
 pub fn check(program: &Program, path: &str) -> Result<String, Vec<String>> {
     let text = fs::read_to_string(path).map_err(|error| vec![format!("{path}: {error}")])?;
     let tried = trials_of(&text).map_err(|trouble| vec![format!("{path}: {trouble}")])?;
-    let reports = tried.trials.iter().filter_map(own_difference);
-    let reports: Vec<String> = reports.take(MOST_REPORTED).collect();
-    if !reports.is_empty() {
-        return Err(reports);
-    }
-    let calls: Vec<Call> = tried.trials.into_iter().map(|trial| trial.call).collect();
-    let reports = differences(program, &calls);
-    if !reports.is_empty() {
-        return Err(reports);
-    }
+    let calls = try_all(program, tried.trials)?;
     println!(
-        "{} calls agree; in {} lines the compatibility columns too",
-        calls.len(),
+        "{calls} calls agree; in {} lines the compatibility columns too",
         tried.compatibility_lines
     );
     Ok(format!(

@@ -3,6 +3,7 @@
 
 use crate::cases::FULL_PARTS;
 use crate::kinds::{kind_of, Kind, LAST_KIND, TABLE};
+use crate::name_reading_cases::NAME_READING;
 use crate::reading_cases::READING;
 use crate::run::{Ending, Program};
 use crate::wire::{put_answer, put_call, put_number, Call, Shape};
@@ -161,12 +162,12 @@ fn cut_calls(stops: &mut Vec<Stop>) {
 
 /// Long calls without their last byte: also one that would be refused has to be there whole.
 fn long_cut_calls(stops: &mut Vec<Stop>) {
-    // Elements of four bytes, and of one.
-    for kind in [&FULL_PARTS, &READING] {
+    // Elements of four bytes, and of one; the last kind lends no buffer.
+    for kind in [&FULL_PARTS, &READING, &NAME_READING] {
         for length in [8, 16_384, 16_385, MOST_ELEMENTS as usize] {
             let call = Call {
                 kind: kind.number,
-                room: 1,
+                room: u32::from(kind.number != NAME_READING.number),
                 a: vec![0x41; length],
                 ..Call::default()
             };

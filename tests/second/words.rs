@@ -6,6 +6,8 @@ use crate::wire::{Answer, Call, Width};
 
 /// Longer lists are shown by their first and last elements.
 const MOST_SHOWN: usize = 12;
+/// Longer texts are shown by their bytes and not in quotes.
+const MOST_OF_A_NAME: usize = 60;
 
 /// A code point in the Standard's way: capital hex of at least four digits.
 pub fn code(code: u32) -> String {
@@ -37,6 +39,27 @@ pub fn list(elements: &[u32], width: Width) -> String {
 /// The argument of a kind that takes one code point.
 pub fn code_argument(call: &Call) -> String {
     code(call.x)
+}
+
+/// The arguments of a kind that takes one code point and a lent buffer.
+pub fn code_and_room(call: &Call) -> String {
+    format!("{} room {}", code(call.x), call.room)
+}
+
+/// The arguments of a kind that takes a name. What is too long for one is shown as any bytes are.
+pub fn name_argument(call: &Call) -> String {
+    if call.a.len() > MOST_OF_A_NAME {
+        return list(&call.a, Width::Byte);
+    }
+    quoted(&call.a)
+}
+
+/// Bytes as text in quotes, with escapes for what is no printable ASCII.
+fn quoted(bytes: &[u32]) -> String {
+    let escaped = bytes
+        .iter()
+        .flat_map(|&byte| std::ascii::escape_default(byte as u8));
+    format!("\"{}\"", escaped.map(char::from).collect::<String>())
 }
 
 /// The arguments of a kind that takes a text of code points and a lent buffer.
@@ -82,11 +105,26 @@ fn with_subparts(answer: &Answer, width: Width) -> String {
     format!("{front}, {} ill-formed{rest}", answer.second)
 }
 
-/// The length, the front of the buffer, and how many elements behind it were left as they were.
-pub fn in_buffer(answer: &Answer, width: Width) -> String {
-    let length = (answer.value as usize).min(answer.lent.len());
-    let (front, behind) = answer.lent.split_at(length);
-    let colon = if front.is_empty() { "" } else { ": " };
+/// The answer of a kind that fills the lent buffer with a name.
+pub fn name_in_buffer(_call: &Call, answer: &Answer) -> String {
+    let (front, behind) = answer.lent.split_at(written_length(answer));
+    let (name, left) = (quoted(front), left_behind(behind, Width::Byte));
+    let rest = unexpected_values(answer.second, answer.third);
+    format!("{}: {name} {left}{rest}", answer.value)
+}
+
+/// The answer of a kind that gives a code point as its value.
+pub fn code_by_value(_call: &Call, answer: &Answer) -> String {
+    code(answer.value) + &unexpected_values(answer.second, answer.third)
+}
+
+/// How many elements of the buffer the answer claims, as far as there are so many.
+fn written_length(answer: &Answer) -> usize {
+    (answer.value as usize).min(answer.lent.len())
+}
+
+/// How many elements stand behind the answer, and whether they were left as they were.
+fn left_behind(behind: &[u32], width: Width) -> String {
     let written = behind
         .iter()
         .filter(|&&number| number != width.untouched())
@@ -95,12 +133,15 @@ pub fn in_buffer(answer: &Answer, width: Width) -> String {
         0 => String::new(),
         count => format!(", of them {count} CHANGED: {}", list(behind, width)),
     };
-    let front = list(front, width);
-    format!(
-        "{}{colon}{front} ({} left{change})",
-        answer.value,
-        behind.len()
-    )
+    format!("({} left{change})", behind.len())
+}
+
+/// The length, the front of the buffer, and how many elements behind it were left as they were.
+pub fn in_buffer(answer: &Answer, width: Width) -> String {
+    let (front, behind) = answer.lent.split_at(written_length(answer));
+    let colon = if front.is_empty() { "" } else { ": " };
+    let (front, left) = (list(front, width), left_behind(behind, width));
+    format!("{}{colon}{front} {left}", answer.value)
 }
 
 /// Says where an answer has a value of which its kind says nothing.

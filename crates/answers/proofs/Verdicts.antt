@@ -50,7 +50,7 @@ module _ {A Value : Type 0} {before : Check} {whole out : List A} {value : Value
   fills-unique f g = (f .answers ∙ sym (g .answers), f .leaves ∙ sym (g .leaves))
 
 -- what a call that is done says: its checks passed, and it answers and leaves what it should
-done-not-refused : {Value : Type 0} {value : Value} {number place : ℕ} → done value ≡ refused number place → ⊥
+pub done-not-refused : {Value : Type 0} {value : Value} {number place : ℕ} → done value ≡ refused number place → ⊥
 done-not-refused e = let z : _≡_ {A = ℕ} 0 1 = cc in omega arith
 
 done-is : {A Value : Type 0} (check : Check) (value : Value) (whole out : List A) {answer : Value} {out′ : List A} → done answer ≡ verdict check value

@@ -2,6 +2,7 @@
 // calls on standard input and writes answers on standard output; the work is the library's.
 mod codes;
 mod encoded;
+mod named;
 mod reply;
 mod wire;
 
@@ -109,6 +110,26 @@ fn answer_mend(text: &mut [u8], lent: &mut [u8], bytes: &mut [u8]) -> bool {
     write_bytes(answer, lent, bytes)
 }
 
+// Naming: a code in, bytes out. It takes no elements, and those that come are passed over.
+fn answer_name(code: u32, text: &mut [u32], lent: &mut [u8], bytes: &mut [u8]) -> bool {
+    if !read_numbers(bytes, text) {
+        return false;
+    }
+    wire::fill_bytes(lent);
+    let answer = named::name(code, lent);
+    write_bytes(answer, lent, bytes)
+}
+
+// Reading a name: bytes in. It fills nothing.
+fn answer_read_name(text: &mut [u8], lent: &mut [u8], bytes: &mut [u8]) -> bool {
+    if !read_whole(text) {
+        return false;
+    }
+    wire::fill_bytes(lent);
+    let answer = named::read(text);
+    write_bytes(answer, lent, bytes)
+}
+
 // Answers the call whose head was read, and says whether to go on: no where it is too large, where
 // it is of no kind, and where it has elements of b, which none of these kinds takes.
 fn answer_call(
@@ -140,6 +161,8 @@ fn answer_call(
     }
     match kind {
         1..=4 => answer_codes(kind, code, &mut text[..first], &mut lent[..room], bytes),
+        8 => answer_name(code, &mut text[..first], &mut filled[..room], bytes),
+        9 => answer_read_name(&mut input[..first], &mut filled[..room], bytes),
         10 => answer_read(&mut input[..first], &mut lent[..room], bytes),
         11 => answer_write(&mut text[..first], &mut filled[..room], bytes),
         12 => answer_mend(&mut input[..first], &mut filled[..room], bytes),

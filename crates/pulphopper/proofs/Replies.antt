@@ -1,9 +1,12 @@
--- Laws of what C is told: a refusal (`refused-is`), an answer by what mending answers (`mends-done`, `mends-few`, `mends-refused`), and that any two
--- results that a contract admits are equal (`mends-unique`). Not here: the verdicts (crate answers). Assumes nothing.
+-- Laws of what C is told: a refusal (`refused-is`); an answer by what mending answers (`mends-done`, `mends-few`, `mends-refused`), by what naming
+-- answers (`names-done`, `names-refused`) and by what reading a name does (`reads-done`, `reads-refused`); and that any two results that a contract
+-- admits are equal (`mends-unique`, `names-unique`, `reads-unique`). Not here: the verdicts (crate answers). Assumes nothing.
 use mathlib.Core.Path.{_≡_, sym, _∙_, ap}
 use mathlib.Core.List.{List}
 use Prim.Native.Nat.{ℕ, _≤_}
-use Rattle.answers.specs.Answers.{told}
+use Rattle.answers.specs.Answers.{told, filled}
+use Rattle.answers.specs.declared.Filled.{Filled}
+use Rattle.answers.specs.declared.Filled.the-variants.{Done as FilledDone, Refused as FilledRefused}
 use Rattle.answers.specs.declared.Refusal.{Refusal}
 use Rattle.answers.specs.declared.Told.{Told}
 use Rattle.utf8.specs.Reading.{readAs, Reads}
@@ -12,7 +15,10 @@ use Rattle.utf8.specs.declared.read.Read.{Read}
 use Rattle.utf8.specs.declared.read.Read.the-variants.{Done, Refused}
 use Rattle.mending.specs.Mending.{mended}
 use Rattle.mending.proofs.Damage.{done-few}
-use Rattle.pulphopper.specs.Replies.{refusedAnswer, countedAnswer, Mends}
+use Rattle.names.specs.Naming.{Names, namedAs, ReadsName}
+use Rattle.names.specs.declared.reading.Named.{Named}
+use Rattle.names.specs.declared.reading.Named.the-variants.{Syllable, Refused as NamedRefused}
+use Rattle.pulphopper.specs.Replies.{refusedAnswer, countedAnswer, plainAnswer, Mends, NamesForC, ReadsNameForC}
 use Rattle.pulphopper.specs.declared.Answer.{Answer}
 
 pub refused-is : (r : Refusal) {t : Told} → t ≡ told r → record { refusal = t .number; count = 0; value = t .place } ≡ refusedAnswer r
@@ -35,3 +41,33 @@ module _ (text out : List ℕ) where
 
   pub mends-unique : {r s : Answer} {o p : List ℕ} → Mends text out r o → Mends text out s p → (r ≡ s) × (o ≡ p)
   mends-unique f g = (f .answers ∙ sym (g .answers), f .leaves ∙ sym (g .leaves))
+
+module _ (code : ℕ) (out : List ℕ) where
+  -- a is what naming answered, and r what C is told
+  module _ {a : Filled} {out′ : List ℕ} (h : Names code out a out′) where
+    by-filled : {r : Answer} → r ≡ plainAnswer (filled a) → NamesForC code out r out′
+    by-filled e = record { answers = e ∙ ap plainAnswer (h .fills .answers); leaves = h .fills .leaves }
+
+    pub names-done : {k : ℕ} → a ≡ FilledDone k → NamesForC code out (record { refusal = 0; count = 0; value = k }) out′
+    names-done e = by-filled (sym (ap (λ (x : Filled). plainAnswer (filled x)) e))
+
+    pub names-refused : {f : Refusal} → a ≡ FilledRefused f → {r : Answer} → r ≡ refusedAnswer f → NamesForC code out r out′
+    names-refused e q = by-filled (q ∙ sym (ap (λ (x : Filled). plainAnswer (filled x)) e))
+
+  pub names-unique : {r s : Answer} {o p : List ℕ} → NamesForC code out r o → NamesForC code out s p → (r ≡ s) × (o ≡ p)
+  names-unique f g = (f .answers ∙ sym (g .answers), f .leaves ∙ sym (g .leaves))
+
+module _ (name : List ℕ) where
+  -- a is what reading answered
+  module _ {a : Named} (h : ReadsName name a) where
+    by-named : {r : Answer} → r ≡ plainAnswer (namedAs a) → ReadsNameForC name r
+    by-named e = record { answers = e ∙ ap plainAnswer (h .answers) }
+
+    pub reads-done : {s : ℕ} → a ≡ Syllable s → ReadsNameForC name (record { refusal = 0; count = 0; value = s })
+    reads-done e = by-named (sym (ap (λ (x : Named). plainAnswer (namedAs x)) e))
+
+    pub reads-refused : {f : Refusal} → a ≡ NamedRefused f → {r : Answer} → r ≡ refusedAnswer f → ReadsNameForC name r
+    reads-refused e q = by-named (q ∙ sym (ap (λ (x : Named). plainAnswer (namedAs x)) e))
+
+  pub reads-unique : {r s : Answer} → ReadsNameForC name r → ReadsNameForC name s → r ≡ s
+  reads-unique f g = f .answers ∙ sym (g .answers)

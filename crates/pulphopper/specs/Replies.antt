@@ -1,15 +1,18 @@
 -- What C is told (include/pulphopper.h): a verdict in the three numbers of an answer, and the contract of each call.
 -- Not here: the verdicts (crate answers), what a call makes (the crates below). Assumes nothing.
 use mathlib.Core.Path.{_≡_}
-use mathlib.Core.List.{List}
+use mathlib.Core.List.{List, [], _∷_}
 use Prim.Native.Nat.{ℕ}
-use Rattle.answers.specs.Checks.{takesBytes}
+use lib.ListN.{length}
+use Rattle.answers.specs.Checks.{inOrder, takesBytes}
 use Rattle.answers.specs.Verdicts.{Verdict, done, refused, verdict, after, fits}
 use Rattle.answers.specs.Answers.{told}
 use Rattle.answers.specs.declared.Refusal.{Refusal}
 use Rattle.utf8.specs.Reading.{countedOf}
 use Rattle.utf8.specs.declared.read.Counted.{Counted}
 use Rattle.mending.specs.Mending.{mended}
+use Rattle.names.specs.Names.{nameOf, named}
+use Rattle.names.specs.Naming.{noSyllable, noName, syllableOr}
 use Rattle.pulphopper.specs.declared.Answer.{Answer}
 
 -- a refusal: its number, its place, and count 0
@@ -21,7 +24,21 @@ abbrev pub countedAnswer : Verdict Counted → Answer
 countedAnswer (done c) = record { refusal = 0; count = c .ills; value = c .length }
 countedAnswer (refused number place) = record { refusal = number; count = 0; value = place }
 
+-- a verdict of a call that answers one value: the count is 0
+abbrev pub plainAnswer : Verdict ℕ → Answer
+plainAnswer (done value) = record { refusal = 0; count = 0; value = value }
+plainAnswer (refused number place) = record { refusal = number; count = 0; value = place }
+
 -- THE CONTRACT of mending for C: 1, then 3
 pub record Mends (text out : List ℕ) (r : Answer) (out′ : List ℕ) : Type 0 where
   pub answers : r ≡ countedAnswer (verdict (fits (takesBytes text) (mended text) out) (countedOf mended text))
   pub leaves : out′ ≡ after (fits (takesBytes text) (mended text) out) (mended text) out
+
+-- THE CONTRACT of naming for C: 4, then 3
+pub record NamesForC (code : ℕ) (out : List ℕ) (r : Answer) (out′ : List ℕ) : Type 0 where
+  pub answers : r ≡ plainAnswer (verdict (fits (noSyllable code) (nameOf code) out) (length (nameOf code)))
+  pub leaves : out′ ≡ after (fits (noSyllable code) (nameOf code) out) (nameOf code) out
+
+-- THE CONTRACT of reading a name for C: 1, then 5
+pub record ReadsNameForC (name : List ℕ) (r : Answer) : Type 0 where
+  pub answers : r ≡ plainAnswer (verdict (inOrder (takesBytes name ∷ noName (named name) ∷ [])) (syllableOr (named name)))

@@ -1,9 +1,11 @@
 // Pulphopper's calls for C: include/pulphopper.h declares and documents them.
 // Only the answers' form is made here; the work is that of the crates below.
+use answers::Filled;
 use answers::Refusal;
+use names::reading::Named;
 use utf8::read::Read;
 ghost use mathlib.Core.Path.{_≡_};
-ghost use Rattle.pulphopper.specs.Replies.{refusedAnswer, Mends};
+ghost use Rattle.pulphopper.specs.Replies.{refusedAnswer, Mends, NamesForC, ReadsNameForC};
 
 // The answer of every call. A refusal is its number, and value its place; 0 is none.
 #[repr(C)]
@@ -37,5 +39,37 @@ pub extern "C" fn pulphopper_mend(text: &[u8], out: &mut [u8]) -> Answer
             value: counted.length as u64,
         },
         Read::Refused(refusal) => refused(refusal),
+    }
+}
+
+// Names a syllable: value is the length of the name.
+#[no_mangle]
+pub extern "C" fn pulphopper_name(code: u32, out: &mut [u8]) -> Answer
+    ensures { λ r. ⌜ NamesForC code (now (out .entry)) r (now (out .exit)) ⌝ }
+{
+    let answer = names::naming::name(code, out);
+    match answer {
+        Filled::Done(length) => Answer {
+            refusal: 0,
+            count: 0,
+            value: length as u64,
+        },
+        Filled::Refused(refusal) => refused(refusal),
+    }
+}
+
+// Reads a name: value is the syllable.
+#[no_mangle]
+pub extern "C" fn pulphopper_read_name(name: &[u8]) -> Answer
+    ensures { λ r. ⌜ ReadsNameForC (now (name .entry)) r ⌝ }
+{
+    let answer = names::reading::read_name(name);
+    match answer {
+        Named::Syllable(code) => Answer {
+            refusal: 0,
+            count: 0,
+            value: code as u64,
+        },
+        Named::Refused(refusal) => refused(refusal),
     }
 }

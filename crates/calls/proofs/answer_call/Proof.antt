@@ -43,6 +43,36 @@ number-requires-5 c κs = search needs
 returns-5 : tie.Need-returns-5
 returns-5 c = search needs
 
+slice-relend-prefix-answer-name : tie.Need-slice-relend-prefix-answer-name
+slice-relend-prefix-answer-name c = search needs
+
+slice-aggregate-answer-name : tie.Need-slice-aggregate-answer-name
+slice-aggregate-answer-name c = sym (length-take-le _ _ (omega arith))
+
+slice-relend-prefix-answer-name-2 : tie.Need-slice-relend-prefix-answer-name-2
+slice-relend-prefix-answer-name-2 c = search needs
+
+slice-aggregate-answer-name-2 : tie.Need-slice-aggregate-answer-name-2
+slice-aggregate-answer-name-2 c = sym (length-take-le _ _ (omega arith))
+
+answer-name-requires : tie.Need-answer-name-requires
+answer-name-requires c κs = search needs
+
+slice-relend-prefix-answer-read-name : tie.Need-slice-relend-prefix-answer-read-name
+slice-relend-prefix-answer-read-name c = search needs
+
+slice-aggregate-answer-read-name : tie.Need-slice-aggregate-answer-read-name
+slice-aggregate-answer-read-name c = sym (length-take-le _ _ (omega arith))
+
+slice-relend-prefix-answer-read-name-2 : tie.Need-slice-relend-prefix-answer-read-name-2
+slice-relend-prefix-answer-read-name-2 c = search needs
+
+slice-aggregate-answer-read-name-2 : tie.Need-slice-aggregate-answer-read-name-2
+slice-aggregate-answer-read-name-2 c = sym (length-take-le _ _ (omega arith))
+
+answer-read-name-requires : tie.Need-answer-read-name-requires
+answer-read-name-requires c κs = search needs
+
 slice-relend-prefix-answer-read : tie.Need-slice-relend-prefix-answer-read
 slice-relend-prefix-answer-read c = search needs
 
@@ -151,11 +181,35 @@ same-length-12 c = search needs
 returns-9 : tie.Need-returns-9
 returns-9 c = search needs
 
+same-length-13 : tie.Need-same-length-13
+same-length-13 c = search needs
+
+same-length-14 : tie.Need-same-length-14
+same-length-14 c = search needs
+
+same-length-15 : tie.Need-same-length-15
+same-length-15 c = search needs
+
 returns-10 : tie.Need-returns-10
 returns-10 c = search needs
 
+same-length-16 : tie.Need-same-length-16
+same-length-16 c = search needs
+
+same-length-17 : tie.Need-same-length-17
+same-length-17 c = search needs
+
+same-length-18 : tie.Need-same-length-18
+same-length-18 c = search needs
+
 returns-11 : tie.Need-returns-11
 returns-11 c = search needs
+
+returns-12 : tie.Need-returns-12
+returns-12 c = search needs
+
+returns-13 : tie.Need-returns-13
+returns-13 c = search needs
 
 pub answer-call-spec : {M : Type 1} → statement M
 answer-call-spec =
@@ -173,6 +227,16 @@ answer-call-spec =
     returns-4
     number-requires-5
     returns-5
+    slice-relend-prefix-answer-name
+    slice-aggregate-answer-name
+    slice-relend-prefix-answer-name-2
+    slice-aggregate-answer-name-2
+    answer-name-requires
+    slice-relend-prefix-answer-read-name
+    slice-aggregate-answer-read-name
+    slice-relend-prefix-answer-read-name-2
+    slice-aggregate-answer-read-name-2
+    answer-read-name-requires
     slice-relend-prefix-answer-read
     slice-aggregate-answer-read
     slice-relend-prefix-answer-read-2
@@ -209,5 +273,13 @@ answer-call-spec =
     same-length-11
     same-length-12
     returns-9
+    same-length-13
+    same-length-14
+    same-length-15
     returns-10
-    returns-11)
+    same-length-16
+    same-length-17
+    same-length-18
+    returns-11
+    returns-12
+    returns-13)

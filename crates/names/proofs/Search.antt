@@ -1,0 +1,295 @@
+-- What the search of a name compares, and what it has passed over. In order: a string by value, and that it is as long as the table's
+-- (`spells-size`); how a name goes on with it from an index on, letter by letter; how a name begins with the prefix, letter by letter (`PrefixTo`);
+-- a name's three strings at their indices, not there (`prefix-miss` to `final-miss`) and there (`name-there`); what a search of a table's rows
+-- keeps (`Tried`), and what the three searches do (`Initials`, `Peaks`, `Finals`). Each law concludes what the code's next turn, or its return, asks.
+-- Not here: which syllable has a name (proofs/Found). Assumes nothing.
+use mathlib.Core.Path.{_≡_, refl, sym, _∙_, ap}
+use mathlib.Core.Bool.{Bool, true, false, cond}
+use mathlib.Core.List.{List, [], _∷_, _++_}
+use Prim.Native.Nat.{ℕ, suc, _+_, _-_, _≤_, _<_}
+use native.Mathlib.Omega.{arith}
+use lib.Dec.{eqb}
+use lib.ListN.{length, getD, take, drop, length-drop, drop-of-length-le}
+use lib.Seq.{drop-drop, drop-append-seam}
+use borrow.Author.Tests.{eqb-true, eqb-false}
+use borrow.Author.Count.{below-more}
+use Rattle.laws.specs.Strings.{same, begins, picked}
+use Rattle.laws.proofs.Bools.{test}
+use Rattle.laws.proofs.Strings.{same-true, same-false, same-begins, same-other-length, begins-behind, begins-false, begins-least, begins-short}
+use Rattle.laws.proofs.Strings.{begins-here, begins-not-here, begins-on, begins-not-on}
+use Rattle.names.specs.Names.{initials, peaks, finals, prefix, nameBy}
+use Rattle.names.specs.Naming.{stringOf, Spells}
+use Rattle.names.specs.declared.strings.Part.{Part}
+use Rattle.names.proofs.Rows.{string-size, spells-size}
+
+-- ---- a string by value
+
+module _ (part : Part) where
+  -- not empty, and of more than one letter
+  spelled-some : (part .length ≡ 0 → ⊥) → stringOf part ≡ part .first ∷ take (part .length - 1) (part .second ∷ part .third ∷ [])
+  spelled-some h =
+      let e : part .length ≡ suc (part .length - 1) = omega arith in
+      ap (λ (n : ℕ). take n (part .first ∷ part .second ∷ part .third ∷ [])) e
+
+  spelled-more : (part .length ≡ 0 → ⊥) → (part .length ≡ 1 → ⊥)
+      → stringOf part ≡ part .first ∷ part .second ∷ take (part .length - 2) (part .third ∷ [])
+  spelled-more h k =
+      let e : part .length ≡ suc (suc (part .length - 2)) = omega arith in
+      ap (λ (n : ℕ). take n (part .first ∷ part .second ∷ part .third ∷ [])) e
+
+-- ---- how a name goes on with a string from an index on
+
+module _ (part : Part) (few : part .length ≤ 3) (name : List ℕ) (at : ℕ) where
+  pub goes-short : length name - at < part .length → false ≡ begins (stringOf part) (drop at name)
+  goes-short h = sym (begins-short (stringOf part) (drop at name) (omega (arith, string-size part few, length-drop at name)))
+
+  pub goes-0 : part .length ≡ 0 → true ≡ begins (stringOf part) (drop at name)
+  goes-0 e = rw e
+
+  module _ (inside : at ≤ length name) (long : part .length ≤ length name - at) (some : part .length ≡ 0 → ⊥) where
+    pub goes-not-first : (getD name at 0 ≡ part .first → ⊥) → false ≡ begins (stringOf part) (drop at name)
+    goes-not-first h =
+        rw (spelled-some part some)
+        (sym (begins-not-here (part .first) (take (part .length - 1) (part .second ∷ part .third ∷ [])) name at (omega arith) h))
+
+    module _ (first : getD name at 0 ≡ part .first) where
+      pub goes-1 : part .length ≡ 1 → true ≡ begins (stringOf part) (drop at name)
+      goes-1 e = rw e (sym (begins-here (part .first) [] name at (omega arith) first))
+
+      module _ (more : part .length ≡ 1 → ⊥) where
+        behind-first : begins (stringOf part) (drop at name)
+            ≡ begins (part .second ∷ take (part .length - 2) (part .third ∷ [])) (drop (at + 1) name)
+        behind-first =
+            rw (spelled-more part some more)
+            (begins-here (part .first) (part .second ∷ take (part .length - 2) (part .third ∷ [])) name at (omega arith) first)
+
+        pub goes-not-second : (getD name (at + 1) 0 ≡ part .second → ⊥) → false ≡ begins (stringOf part) (drop at name)
+        goes-not-second h =
+            sym (behind-first ∙ begins-not-here (part .second) (take (part .length - 2) (part .third ∷ [])) name (at + 1) (omega arith) h)
+
+        module _ (second : getD name (at + 1) 0 ≡ part .second) where
+          behind-second : begins (stringOf part) (drop at name) ≡ begins (take (part .length - 2) (part .third ∷ [])) (drop (at + 1 + 1) name)
+          behind-second =
+              behind-first ∙ begins-here (part .second) (take (part .length - 2) (part .third ∷ [])) name (at + 1) (omega arith) second
+
+          pub goes-2 : part .length ≡ 2 → true ≡ begins (stringOf part) (drop at name)
+          goes-2 e = sym (behind-second ∙ rw e)
+
+          pub goes-3 : (part .length ≡ 2 → ⊥) → eqb (getD name (at + 2) 0) (part .third) ≡ begins (stringOf part) (drop at name)
+          goes-3 n =
+              let e : part .length ≡ 3 = omega arith in
+              let two : at + 1 + 1 ≡ at + 2 = omega arith in
+              sym (behind-second ∙ rw (e, two) (third-letter (at + 2) (omega arith)))
+            where
+              third-letter : (k : ℕ) → k < length name → begins (part .third ∷ []) (drop k name) ≡ eqb (getD name k 0) (part .third)
+              third-letter k h =
+                  test (eqb (getD name k 0) (part .third)) (λ e. begins-here (part .third) [] name k h (eqb-true _ _ e) ∙ sym e)
+                  (λ e. begins-not-here (part .third) [] name k h (eqb-false _ _ e) ∙ sym e)
+
+  -- and how it ends with it
+  pub ends-other : (length name - at ≡ part .length → ⊥) → false ≡ same (stringOf part) (drop at name)
+  ends-other h = sym (same-other-length (stringOf part) (drop at name) (λ e. h (sym (length-drop at name) ∙ sym e ∙ string-size part few)))
+
+  pub ends-as : length name - at ≡ part .length → {told : Bool} → told ≡ begins (stringOf part) (drop at name)
+      → told ≡ same (stringOf part) (drop at name)
+  ends-as h e = e ∙ sym (same-begins (stringOf part) (drop at name) (string-size part few ∙ sym h ∙ sym (length-drop at name)))
+
+-- ---- how a name begins with the prefix, letter by letter
+
+-- the letters before `at` are the prefix's
+pub record PrefixTo (name : List ℕ) (at : ℕ) : Type 0 where
+  pub inside : at ≤ 16
+  pub so-far : begins (drop at prefix) (drop at name) ≡ begins prefix name
+
+module _ (name : List ℕ) where
+  pub prefix-short : length name < 16 → false ≡ begins prefix name
+  unfolding prefix
+  prefix-short h = sym (begins-short prefix name (omega arith))
+
+  pub prefix-none : PrefixTo name 0
+  prefix-none = record { inside = omega arith; so-far = refl }
+
+module _ {name : List ℕ} {at : ℕ} (to : PrefixTo name at) where
+  module _ (on : at < 16) (long : 16 ≤ length name) where
+    pub prefix-more : getD name at 0 ≡ getD prefix at 0 → PrefixTo name (at + 1)
+    unfolding prefix
+    prefix-more e = record { inside = omega arith; so-far = sym (begins-on prefix name at on (omega arith) e) ∙ to .so-far }
+
+    pub prefix-not : (getD name at 0 ≡ getD prefix at 0 → ⊥) → false ≡ begins prefix name
+    unfolding prefix
+    prefix-not h = sym (begins-not-on prefix name at on (omega arith) h) ∙ to .so-far
+
+  pub prefix-all : 16 ≤ at → true ≡ begins prefix name
+  unfolding prefix
+  prefix-all h = rw (drop-of-length-le prefix h) at (to .so-far)
+
+-- ---- a name's three strings at their indices
+
+-- the index behind the initial's string, and behind the peak's
+abbrev behindInitial : ℕ → ℕ
+behindInitial i = 16 + length (getD initials i [])
+
+abbrev behindPeak : ℕ → ℕ → ℕ
+behindPeak i p = behindInitial i + length (getD peaks p [])
+
+-- the name is not that of i, p and f; it is with no final; it is with no peak
+abbrev Miss : List ℕ → ℕ → ℕ → ℕ → Type 0
+Miss name i p f = name ≡ nameBy i p f → ⊥
+
+abbrev NoFinal : List ℕ → ℕ → ℕ → Type 0
+NoFinal name i p = (f : ℕ) → f < 28 → Miss name i p f
+
+abbrev NoPeak : List ℕ → ℕ → Type 0
+NoPeak name i = (p : ℕ) → p < 21 → NoFinal name i p
+
+module _ (name : List ℕ) (i p f : ℕ) where
+  module _ (e : name ≡ nameBy i p f) where
+    from-initial : drop 16 name ≡ picked initials peaks finals i p f
+    unfolding nameBy prefix
+    from-initial = ap (drop 16) e
+
+    from-peak : drop (behindInitial i) name ≡ getD peaks p [] ++ getD finals f []
+    from-peak =
+        sym (drop-drop (length (getD initials i [])) 16 name) ∙ ap (drop (length (getD initials i []))) from-initial
+        ∙ drop-append-seam (getD initials i []) (getD peaks p [] ++ getD finals f [])
+
+    from-final : drop (behindPeak i p) name ≡ getD finals f []
+    from-final =
+        sym (drop-drop (length (getD peaks p [])) (behindInitial i) name) ∙ ap (drop (length (getD peaks p []))) from-peak
+        ∙ drop-append-seam (getD peaks p []) (getD finals f [])
+
+  prefix-miss : begins prefix name ≡ false → Miss name i p f
+  unfolding nameBy
+  prefix-miss h e = begins-false prefix name h (picked initials peaks finals i p f) e
+
+  initial-miss : begins (getD initials i []) (drop 16 name) ≡ false → Miss name i p f
+  initial-miss h e = begins-false (getD initials i []) (drop 16 name) h (getD peaks p [] ++ getD finals f []) (from-initial e)
+
+  peak-miss : begins (getD peaks p []) (drop (behindInitial i) name) ≡ false → Miss name i p f
+  peak-miss h e = begins-false (getD peaks p []) (drop (behindInitial i) name) h (getD finals f []) (from-peak e)
+
+  final-miss : same (getD finals f []) (drop (behindPeak i p) name) ≡ false → Miss name i p f
+  final-miss h e = same-false (getD finals f []) (drop (behindPeak i p) name) h (sym (from-final e))
+
+  -- the prefix and all three are there
+  name-there : begins prefix name ≡ true → begins (getD initials i []) (drop 16 name) ≡ true
+      → begins (getD peaks p []) (drop (behindInitial i) name) ≡ true → same (getD finals f []) (drop (behindPeak i p) name) ≡ true
+      → name ≡ nameBy i p f
+  unfolding nameBy prefix
+  name-there begun initial peak final =
+      begins-behind prefix name begun ∙ ap (λ (l : List ℕ). prefix ++ l) behind-prefix
+    where
+      behind-initial : drop (behindInitial i) name ≡ getD peaks p [] ++ getD finals f []
+      behind-initial =
+          begins-behind (getD peaks p []) (drop (behindInitial i) name) peak
+          ∙ ap (λ (l : List ℕ). getD peaks p [] ++ l)
+          (drop-drop (length (getD peaks p [])) (behindInitial i) name ∙ sym (same-true (getD finals f []) (drop (behindPeak i p) name) final))
+
+      behind-prefix : drop 16 name ≡ getD initials i [] ++ (getD peaks p [] ++ getD finals f [])
+      behind-prefix =
+          begins-behind (getD initials i []) (drop 16 name) initial
+          ∙ ap (λ (l : List ℕ). getD initials i [] ++ l) (drop-drop (length (getD initials i [])) 16 name ∙ behind-initial)
+
+-- ---- what a search of a table of so many rows keeps: where what stands before does not fit, it begins behind the last row
+
+record Tried (rows : ℕ) (fits : Bool) (Passed : ℕ → Type 0) (row : ℕ) : Type 0 where
+  fitting : row < rows → fits ≡ true
+  passed : (j : ℕ) → j < row → Passed j
+
+module _ {rows : ℕ} {fits : Bool} {Passed : ℕ → Type 0} where
+  -- `told` is what the code's test said, `row` where it begins
+  tried-none : (fits ≡ false → (j : ℕ) → j < rows → Passed j) → {told : Bool} {row : ℕ} → told ≡ fits → row ≡ cond told 0 rows
+      → Tried rows fits Passed row
+  tried-none miss {told} {row} e q = test fits (λ h. begin h (q ∙ rw (e, h))) (λ h. behind h (q ∙ rw (e, h)))
+    where
+      begin : fits ≡ true → row ≡ 0 → Tried rows fits Passed row
+      begin h z = record { fitting = λ k. h; passed = λ j k. absurd (omega arith) }
+
+      behind : fits ≡ false → row ≡ rows → Tried rows fits Passed row
+      behind h z = record { fitting = λ k. absurd (omega arith); passed = λ j k. miss h j (omega arith) }
+
+  tried-more : {row : ℕ} → Tried rows fits Passed row → row < rows → Passed row → Tried rows fits Passed (row + 1)
+  tried-more t h p = record { fitting = λ k. t .fitting h; passed = below-more _ _ (t .passed) p }
+
+  tried-all : {row : ℕ} → Tried rows fits Passed row → rows ≤ row → (j : ℕ) → j < rows → Passed j
+  tried-all t h j k = t .passed j (omega arith)
+
+-- ---- the three searches
+
+pub record Initials (name : List ℕ) (i : ℕ) : Type 0 where
+  tried : Tried 19 (begins prefix name) (NoPeak name) i
+
+pub record Peaks (name : List ℕ) (i p : ℕ) : Type 0 where
+  tried : Tried 21 (begins (getD initials i []) (drop 16 name)) (NoFinal name i) p
+
+pub record Finals (name : List ℕ) (i p f : ℕ) : Type 0 where
+  tried : Tried 28 (begins (getD peaks p []) (drop (behindInitial i) name)) (Miss name i p) f
+
+-- the indices as the code has them, and its test of the final
+module _ (i : ℕ) {first : Part} (initial : Spells first (getD initials i [])) where
+  initial-behind : 16 + first .length ≡ behindInitial i
+  initial-behind = ap (λ (n : ℕ). 16 + n) (spells-size initial)
+
+  module _ (p : ℕ) {second : Part} (peak : Spells second (getD peaks p [])) where
+    peak-behind : 16 + first .length + second .length ≡ behindPeak i p
+    peak-behind = omega (arith, initial-behind, spells-size peak)
+
+    final-told : (f : ℕ) {last : Part} → Spells last (getD finals f []) → (name : List ℕ) {told : Bool}
+        → told ≡ same (stringOf last) (drop (16 + first .length + second .length) name) → told ≡ same (getD finals f []) (drop (behindPeak i p) name)
+    final-told f final name e = e ∙ rw (final .is, peak-behind)
+
+module _ {name : List ℕ} where
+  -- each begins: `told` is what the code's test of what stands before said
+  pub initials-none : {told : Bool} {i : ℕ} → told ≡ begins prefix name → i ≡ cond told 0 19 → Initials name i
+  initials-none e q = record { tried = tried-none (λ h j k p l f m. prefix-miss name j p f h) e q }
+
+  pub initials-all : {i : ℕ} → Initials name i → 19 ≤ i → (j p f : ℕ) → j < 19 → p < 21 → f < 28 → name ≡ nameBy j p f → ⊥
+  initials-all outer h j p f hj hp hf = tried-all (outer .tried) h j hj p hp f hf
+
+  pub initials-more : {i p : ℕ} → Initials name i → i < 19 → Peaks name i p → 21 ≤ p → Initials name (i + 1)
+  initials-more outer h middle k = record { tried = tried-more (outer .tried) h (tried-all (middle .tried) k) }
+
+  pub peaks-more : {i p f : ℕ} → Peaks name i p → p < 21 → Finals name i p f → 28 ≤ f → Peaks name i (p + 1)
+  peaks-more middle h inner k = record { tried = tried-more (middle .tried) h (tried-all (inner .tried) k) }
+
+  module _ {i : ℕ} {first : Part} (initial : Spells first (getD initials i [])) where
+    pub peaks-none : {told : Bool} {p : ℕ} → told ≡ begins (stringOf first) (drop 16 name) → p ≡ cond told 0 21 → Peaks name i p
+    peaks-none e q =
+        record { tried = tried-none (λ h j k f l. initial-miss name i j f h) (e ∙ ap (λ (x : List ℕ). begins x (drop 16 name)) (initial .is)) q }
+
+    module _ {p : ℕ} {second : Part} (peak : Spells second (getD peaks p [])) where
+      pub finals-none : {told : Bool} {f : ℕ} → told ≡ begins (stringOf second) (drop (16 + first .length) name) → f ≡ cond told 0 28
+          → Finals name i p f
+      finals-none e q =
+          record { tried = tried-none (λ h j k. peak-miss name i p j h) (e ∙ rw (peak .is, initial-behind i initial)) q }
+
+      module _ {f : ℕ} {last : Part} (final : Spells last (getD finals f [])) {told : Bool}
+          (ends : told ≡ same (stringOf last) (drop (16 + first .length + second .length) name)) where
+        pub finals-more : Finals name i p f → f < 28 → told ≡ false → Finals name i p (f + 1)
+        finals-more inner h e =
+            let not-there = sym (final-told i initial p peak f final name ends) ∙ e in
+            record { tried = tried-more (inner .tried) h (final-miss name i p f not-there) }
+
+        pub finals-found : Initials name i → i < 19 → Peaks name i p → p < 21 → Finals name i p f → f < 28 → told ≡ true
+            → (i < 19) × (p < 21) × (f < 28) × (name ≡ nameBy i p f)
+        finals-found outer hi middle hp inner hf e =
+            let there = sym (final-told i initial p peak f final name ends) ∙ e in
+            (hi, hp, hf, name-there name i p f (outer .tried .fitting hi) (middle .tried .fitting hp) (inner .tried .fitting hf) there)
+
+  -- where a row is looked at, what stands before fits: the name is long enough
+  module _ {i : ℕ} (outer : Initials name i) (hi : i < 19) where
+    pub prefix-long : 16 ≤ length name
+    unfolding prefix
+    prefix-long = begins-least prefix name (outer .tried .fitting hi)
+
+    module _ {p : ℕ} (middle : Peaks name i p) (hp : p < 21) {first : Part} (initial : Spells first (getD initials i [])) where
+      pub initial-long : 16 + first .length ≤ length name
+      initial-long =
+          let least = begins-least (getD initials i []) (drop 16 name) (middle .tried .fitting hp) in
+          omega (arith, prefix-long, least, length-drop 16 name, initial-behind i initial)
+
+      pub peak-long : {f : ℕ} → Finals name i p f → f < 28 → {second : Part} → Spells second (getD peaks p [])
+          → 16 + first .length + second .length ≤ length name
+      peak-long inner hf peak =
+          let least = begins-least (getD peaks p []) (drop (behindInitial i) name) (inner .tried .fitting hf) in
+          omega (arith, initial-long, least, length-drop (behindInitial i) name, initial-behind i initial, peak-behind i initial p peak)

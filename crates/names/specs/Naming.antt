@@ -1,0 +1,69 @@
+-- What naming and reading a name check and answer (document 01, 'Names', 'Refusal numbers'), and what their private functions ask and promise.
+-- Not here: the names (specs/Names). Assumes nothing.
+use mathlib.Core.Path.{_≡_}
+use mathlib.Core.Bool.{Bool, cond}
+use mathlib.Core.Option.{Option, none, some}
+use mathlib.Core.List.{List, [], _∷_, _++_}
+use Prim.Native.Nat.{ℕ, _+_, _*_, _≤_, _<_}
+use lib.ListN.{length, take}
+use Rattle.answers.specs.Checks.{Check, passes, refuses, inOrder, takesBytes}
+use Rattle.answers.specs.Verdicts.{Verdict, done, verdict, Fills}
+use Rattle.answers.specs.Answers.{filled, refusedBy}
+use Rattle.answers.specs.declared.Filled.{Filled}
+use Rattle.letters.specs.Syllables.{isSyllable, initialOf, peakOf, finalOf}
+use Rattle.names.specs.Names.{prefix, nameBy, nameOf, named}
+use Rattle.names.specs.declared.strings.Part.{Part}
+use Rattle.names.specs.declared.naming.Indices.{Indices}
+use Rattle.names.specs.declared.reading.Found.{Found}
+use Rattle.names.specs.declared.reading.Found.the-variants.{At, Nothing}
+use Rattle.names.specs.declared.reading.Named.{Named}
+use Rattle.names.specs.declared.reading.Named.the-variants.{Syllable, Refused}
+
+-- ---- naming
+
+-- 4: no syllable; the place is 0
+unfoldable pub noSyllable : ℕ → Check
+noSyllable code = cond (isSyllable code) passes (refuses 4 0)
+
+-- THE CONTRACT of naming: 4, then 3, never 2
+pub record Names (code : ℕ) (out : List ℕ) (r : Filled) (out′ : List ℕ) : Type 0 where
+  pub fills : Fills (noSyllable code) (nameOf code) (length (nameOf code)) out (filled r) out′
+
+-- the three indices of a syllable
+abbrev pub indicesOf : ℕ → Indices
+indicesOf s = record { initial = initialOf s; peak = peakOf s; last = finalOf s }
+
+-- ---- reading a name
+
+-- 5: no syllable has the name; the place is 0
+abbrev pub noName : Option ℕ → Check
+noName none = refuses 5 0
+noName (some s) = passes
+
+abbrev pub syllableOr : Option ℕ → ℕ
+syllableOr none = 0
+syllableOr (some s) = s
+
+-- the answer read as a verdict
+abbrev pub namedAs : Named → Verdict ℕ
+namedAs (Syllable s) = done s
+namedAs (Refused r) = refusedBy r
+
+-- THE CONTRACT of reading a name: 1, then 5; the value is the syllable
+pub record ReadsName (name : List ℕ) (r : Named) : Type 0 where
+  pub answers : namedAs r ≡ verdict (inOrder (takesBytes name ∷ noName (named name) ∷ [])) (syllableOr (named name))
+
+-- what the search answers: the three indices of the name, or that no three have it
+abbrev pub FoundIs : List ℕ → Found → Type 0
+FoundIs name (At i p f) = (i < 19) × (p < 21) × (f < 28) × (name ≡ nameBy i p f)
+FoundIs name Nothing = (i p f : ℕ) → i < 19 → p < 21 → f < 28 → name ≡ nameBy i p f → ⊥
+
+-- ---- one string of a table, by value
+
+abbrev pub stringOf : Part → List ℕ
+stringOf part = take (part .length) (part .first ∷ part .second ∷ part .third ∷ [])
+
+-- a part is a table's string
+pub record Spells (part : Part) (string : List ℕ) : Type 0 where
+  pub is : stringOf part ≡ string
+  pub few : part .length ≤ 3

@@ -1,0 +1,108 @@
+// Naming a syllable into a lent buffer (document 01, 'Names').
+// Not here: the strings (strings), reading a name (reading).
+use crate::strings;
+use crate::strings::Part;
+use answers::Filled;
+use answers::Refusal;
+ghost use mathlib.Core.Path.{_≡_};
+ghost use mathlib.Core.Bool.{true};
+ghost use Prim.Native.Nat.{_≤_, _<_};
+ghost use lib.ListN.{length};
+ghost use Rattle.laws.specs.Writing.{Room, Wrote};
+ghost use Rattle.letters.specs.Syllables.{isSyllable};
+ghost use Rattle.names.specs.Names.{prefix, nameBy};
+ghost use Rattle.names.specs.Naming.{indicesOf, stringOf, Names};
+
+// I, P and F.
+pub struct Indices {
+    pub initial: usize,
+    pub peak: usize,
+    pub last: usize,
+}
+
+// The three indices of a syllable.
+fn indices_of(code: u32) -> Indices
+    requires { ⌜ isSyllable code ≡ true ⌝ }
+    ensures { λ r. ⌜ r ≡ indicesOf code ⌝ }
+{
+    let index = (code - 0xAC00) as usize;
+    Indices {
+        initial: index / 588,
+        peak: index % 588 / 28,
+        last: index % 28,
+    }
+}
+
+// Writes a string from `at` on, and answers the index behind it.
+fn put_part(part: Part, out: &mut [u8], at: usize) -> usize
+    requires { ⌜ part .length ≤ 3 ⌝ }
+    requires { ⌜ Room (now out) at (stringOf part) ⌝ }
+    ensures { λ r. ⌜ Wrote (now (out .entry)) at (stringOf part) r (now (out .exit)) ⌝ }
+{
+    if part.length == 0 {
+        return at;
+    }
+    out[at] = part.first;
+    if part.length == 1 {
+        return at + 1;
+    }
+    out[at + 1] = part.second;
+    if part.length == 2 {
+        return at + 2;
+    }
+    out[at + 2] = part.third;
+    at + 3
+}
+
+// Writes "HANGUL SYLLABLE " to the front.
+fn put_prefix(out: &mut [u8]) -> usize
+    requires { ⌜ Room (now out) 0 prefix ⌝ }
+    ensures { λ r. ⌜ Wrote (now (out .entry)) 0 prefix r (now (out .exit)) ⌝ }
+{
+    let prefix = b"HANGUL SYLLABLE ";
+    let mut at = 0;
+    while at < 16 {
+        out[at] = prefix[at];
+        at += 1;
+    }
+    at
+}
+
+// How long the name of three indices is.
+fn name_length(indices: Indices) -> usize
+    ensures { λ r. ⌜ r ≡ length (nameBy (indices .initial) (indices .peak) (indices .last)) ⌝ }
+{
+    let initial = strings::initial(indices.initial);
+    let peak = strings::peak(indices.peak);
+    let last = strings::last(indices.last);
+    16 + initial.length + peak.length + last.length
+}
+
+// Writes the name of three indices to the front of `out`, which has room for it.
+fn put_name(indices: Indices, out: &mut [u8]) -> usize
+    requires { ⌜ length (nameBy (indices .initial) (indices .peak) (indices .last)) ≤ length (now out) ⌝ }
+    ensures { λ r. ⌜ Wrote (now (out .entry)) 0 (nameBy (indices .initial) (indices .peak) (indices .last)) r (now (out .exit)) ⌝ }
+{
+    let behind_prefix = put_prefix(out);
+    let behind_initial = put_part(strings::initial(indices.initial), out, behind_prefix);
+    let behind_peak = put_part(strings::peak(indices.peak), out, behind_initial);
+    put_part(strings::last(indices.last), out, behind_peak)
+}
+
+// Names a syllable: refusals 4 and 3.
+pub fn name(code: u32, out: &mut [u8]) -> Filled
+    ensures { λ r. ⌜ Names code (now (out .entry)) r (now (out .exit)) ⌝ }
+{
+    if code < 0xAC00 {
+        return Filled::Refused(Refusal::NoSyllable);
+    }
+    if 0xD7A3 < code {
+        return Filled::Refused(Refusal::NoSyllable);
+    }
+    let indices = indices_of(code);
+    let needed = name_length(indices);
+    if out.len() < needed {
+        return Filled::Refused(Refusal::NoRoom(needed));
+    }
+    Filled::Done(put_name(indices, out))
+}

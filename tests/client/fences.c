@@ -1,0 +1,84 @@
+/* Counting, lent buffers between fences, and pages that may not be touched: client.h says what each is for.
+   It calls nothing of the library. */
+#ifndef _DEFAULT_SOURCE
+#define _DEFAULT_SOURCE 1 /* for MAP_ANONYMOUS */
+#endif
+#include "client.h"
+
+#include <stdio.h>
+#include <string.h>
+#ifdef __linux__
+#include <sys/mman.h>
+#include <unistd.h>
+#endif
+
+/* ---- counting */
+
+unsigned long passed;
+unsigned long failed;
+
+void check(int holds, const char *where, int line, const char *what) {
+    if (holds) {
+        passed++;
+    } else {
+        failed++;
+        printf("client: FAILED: %s, line %d: %s\n", where, line, what);
+    }
+}
+
+void announce(const char *name) { printf("client: %s\n", name); }
+
+/* ---- lent buffers */
+
+lent text_lent;
+lent out_lent;
+size_t calls_made;
+
+void fill(lent *buffer, size_t size, size_t seed) {
+    size_t i;
+    buffer->used = FENCE + 16 + size + FENCE;
+    for (i = 0; i < buffer->used; i++) {
+        buffer->now[i] = (uint8_t)((i * 37 + seed * 101 + i / 251) & 0xFF);
+    }
+}
+
+void remember(lent *buffer) { memcpy(buffer->before, buffer->now, buffer->used); }
+
+int unchanged_but(const lent *buffer, size_t from, size_t count) {
+    size_t behind = from + count;
+    return memcmp(buffer->now, buffer->before, from) == 0 &&
+           memcmp(buffer->now + behind, buffer->before + behind, buffer->used - behind) == 0;
+}
+
+/* ---- pages that may not be touched */
+
+pages guarded_pages(void) {
+    pages got = {NULL, 0};
+#ifdef __linux__
+    size_t page = (size_t)sysconf(_SC_PAGESIZE);
+    void *all = mmap(NULL, 3 * page, PROT_NONE, MAP_PRIVATE | MAP_ANONYMOUS, -1, 0);
+    if (all != MAP_FAILED && mprotect((uint8_t *)all + page, page, PROT_READ | PROT_WRITE) == 0) {
+        got.good = (uint8_t *)all + page;
+        got.size = page;
+    }
+    CHECK(got.good != NULL);
+#endif
+    return got;
+}
+
+const uint8_t *unreadable(void) {
+    static const uint8_t single = 0x41;
+    static pages guarded = {NULL, 0};
+    if (guarded.good == NULL) {
+        guarded = guarded_pages();
+    }
+    return guarded.good != NULL ? guarded.good + guarded.size : &single;
+}
+
+/* ---- small things */
+
+const uint8_t *bytes_of(const char *text) { return (const uint8_t *)text; }
+
+int is(pulphopper_answer answer, uint32_t refusal, uint64_t value, uint32_t count) {
+    return answer.refusal == refusal && answer.value == value && answer.count == count;
+}
