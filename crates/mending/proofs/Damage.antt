@@ -4,15 +4,15 @@
 --
 -- In order: what is not soft joins with nothing before it (`soft-hard`); joining and writing may be cut (`joined-cuttable`); mending is the general
 -- one (`mended-mend`), keeps its beginning and its ending (`mended-keeps`), where these have their places (`ending-at`, `beginning-at`), and falls
--- apart around ill-formed bytes (`mended-around`); what a call that is done filled and counted (`filled`, `done-filled`, `done-ills`, `done-few`);
--- demand 3 over the call (`call-keeps`, `call-around`, `SameAround`, `demand-3`).
+-- apart around ill-formed bytes (`mended-around`); what a call that is done filled and counted (`done-filled`, `done-ills`, `done-few`);
+-- demand 3 over the call (`call-keeps`, `call-around`, `demand-3`).
 -- Assumes nothing.
 use mathlib.Core.Path.{_≡_, refl, sym, _∙_, ap}
 use mathlib.Core.Bool.{false, false≢true}
 use mathlib.Core.List.{List, [], _∷_, _++_}
 use Prim.Native.Nat.{ℕ, _≤_}
 use native.Mathlib.Omega.{arith}
-use lib.ListN.{length, take, drop}
+use lib.ListN.{length, drop}
 use lib.Seq.{take-at}
 use Rattle.laws.specs.Pieces.{Piece, ill, unitsOf, pieces}
 use Rattle.laws.specs.Damage.{mend, EndsWith, StartsWith, ending, beginning, Kept, Cuttable}
@@ -33,7 +33,7 @@ use Rattle.utf8.specs.declared.read.Read.the-variants.{Done}
 use Rattle.utf8.proofs.Rows.{leads8}
 use Rattle.utf8.proofs.Writing.{bytes-three, write-append}
 use Rattle.utf8.proofs.Reading.{read-most, ills-most}
-use Rattle.mending.specs.Mending.{mended, softAs, soft, joinedBytes}
+use Rattle.mending.specs.Mending.{mended, softAs, soft, joinedBytes, filled, SameAround}
 
 -- ---- joining and writing may be cut
 
@@ -87,9 +87,6 @@ mended-around t P u Q e =
 
 -- ---- over the public call: what it filled, where it is done
 
-abbrev pub filled : Counted → List ℕ → List ℕ
-filled r out′ = take (r .length) out′
-
 module _ {text out out′ : List ℕ} {r : Counted} (h : Reads mended text out (Done r) out′) where
   pub done-filled : filled r out′ ≡ mended text
   done-filled =
@@ -113,18 +110,6 @@ pub call-around : (t : List ℕ) (P : List (Piece ℕ)) (u : List ℕ) (Q : List
     {r : Counted} → Reads mended t out (Done r) out′
     → filled r out′ ≡ mended (unitsOf P) ++ ((0xEF ∷ 0xBF ∷ 0xBD ∷ []) ++ mended (unitsOf Q))
 call-around t P u Q e h = done-filled h ∙ mended-around t P u Q e .1
-
--- two texts with the same beginning b and the same ending z, mended: what the two calls filled, f and g, has one start and one finish in common, and
--- these are what b up to its place and z from its place are mended to
-pub record SameAround (b z f g : List ℕ) : Type 0 where
-  pub start : List ℕ
-  pub finish : List ℕ
-  pub start-is : start ≡ mended (beginning utf8 joinedBytes b)
-  pub finish-is : finish ≡ mended (ending utf8 joinedBytes z)
-  pub first-starts : StartsWith f start
-  pub second-starts : StartsWith g start
-  pub first-ends : EndsWith f finish
-  pub second-ends : EndsWith g finish
 
 pub demand-3 : (b c d z : List ℕ) {o o′ p p′ : List ℕ} {r s : Counted} → Reads mended (b ++ c ++ z) o (Done r) o′
     → Reads mended (b ++ d ++ z) p (Done s) p′ → SameAround b z (filled r o′) (filled s p′)

@@ -18,8 +18,8 @@ use Rattle.utf8.specs.Reading.{Reads}
 use Rattle.utf8.specs.declared.read.Counted.{Counted}
 use Rattle.utf8.specs.declared.read.Read.the-variants.{Done}
 use Rattle.utf8.proofs.Round.{read-write}
-use Rattle.mending.specs.Mending.{mended}
-use Rattle.mending.proofs.Damage.{filled, done-filled}
+use Rattle.mending.specs.Mending.{mended, filled}
+use Rattle.mending.proofs.Damage.{done-filled}
 use Rattle.mending.proofs.Round.{mended-good}
 
 pub write-injective : {x y : List ℕ} → All (λ c. bad c ≡ false) x → All (λ c. bad c ≡ false) y → writeText x ≡ writeText y → x ≡ y
