@@ -12,6 +12,7 @@ mod joining_facts;
 mod kinds;
 mod letter_facts;
 mod letters;
+mod listing;
 mod mending;
 mod mending_cases;
 mod mending_facts;
@@ -45,6 +46,7 @@ const USAGE: &str = "usage:
   second stops PROGRAM [--under EMULATOR]
   second published PROGRAM FILE_OF_NORMALIZATION_TESTS [--under EMULATOR]
   second names PROGRAM FILE_OF_DERIVED_NAMES [--under EMULATOR]
+  second lister PROGRAM [--under EMULATOR]
   second store FOLDER
   second show FILE_OF_CALLS FILE_OF_ANSWERS
   second self
@@ -148,6 +150,12 @@ fn derived_names(path: &str, file: &str, words: &[String]) -> Result<ExitCode, S
     Ok(verdict(published_names::check(&program, file)))
 }
 
+fn lister(path: &str, words: &[String]) -> Result<ExitCode, String> {
+    let program = options(words, &["--under"])?.program(path);
+    let outcome = listing::check(&program);
+    Ok(verdict(outcome.map(|count| format!("{count} texts are listed as they must be"))))
+}
+
 fn show(calls: &str, answers: &str) -> Result<ExitCode, String> {
     let outcome = store::show(calls, answers);
     Ok(outcome.map_or_else(
@@ -176,6 +184,7 @@ fn command(words: &[String]) -> Result<ExitCode, String> {
         ["stops", path, ..] => stops(path, &words[2..]),
         ["published", path, file, ..] => published(path, file, &words[3..]),
         ["names", path, file, ..] => derived_names(path, file, &words[3..]),
+        ["lister", path, ..] => lister(path, &words[2..]),
         ["store", folder] => Ok(verdict(Ok(store::store(folder)?))),
         ["show", calls, answers] => show(calls, answers),
         ["self"] => Ok(own_facts()),

@@ -1,13 +1,17 @@
--- The readings of the code's answers are injective: an answer is known by its number and place, or its value.
+-- The readings of the code's answers are injective: an answer is known by its number and place, or its value (`told-injective`,
+-- `refusedBy-injective`, `filled-injective`, `checked-injective`). And a refusal's number is at most 7, so that it is one digit (`told-below`,
+-- `number-below`).
 -- Not here: which answer is given when (proofs/Verdicts). Assumes nothing.
 use mathlib.Core.Path.{_≡_, refl, sym, _∙_, ap}
 use mathlib.Core.List.{List, [], _∷_}
-use Prim.Native.Nat.{ℕ, _-_}
+use Prim.Native.Nat.{ℕ, _-_, _≤_}
+use native.Mathlib.Omega.{arith}
 use lib.ListN.{getD}
 use Rattle.answers.specs.Verdicts.{Verdict, done, refused}
 use Rattle.answers.specs.Answers.{told, refusedBy, checked, filled}
 use Rattle.answers.specs.declared.Refusal.{Refusal}
 use Rattle.answers.specs.declared.Refusal.the-variants.{OverLimit, BadCodePoint, NoRoom, NoSyllable, NoName, NoRecord, BadLayout}
+use Rattle.answers.specs.declared.Told.{Told}
 use Rattle.answers.specs.declared.Checked.{Checked}
 use Rattle.answers.specs.declared.Checked.the-variants.{Passed, Refused as CheckRefused}
 use Rattle.answers.specs.declared.Filled.{Filled}
@@ -30,6 +34,20 @@ untold-told (BadLayout p) = refl
 -- two refusals with one number and one place are one
 pub told-injective : (r s : Refusal) → told r .number ≡ told s .number → told r .place ≡ told s .place → r ≡ s
 told-injective r s n p = sym (untold-told r) ∙ rw (n, p) (untold-told s)
+
+-- the numbers are those of the table, 1 to 7
+pub told-below : (r : Refusal) → told r .number ≤ 7
+told-below (OverLimit p) = omega arith
+told-below (BadCodePoint p) = omega arith
+told-below (NoRoom p) = omega arith
+told-below NoSyllable = omega arith
+told-below NoName = omega arith
+told-below (NoRecord p) = omega arith
+told-below (BadLayout p) = omega arith
+
+-- t is the refusal as the code told it
+pub number-below : {t : Told} (r : Refusal) → t ≡ told r → t .number ≤ 7
+number-below r e = rw e (told-below r)
 
 module _ {Value : Type 0} where
   pub refusedBy-injective : (r s : Refusal) → refusedBy {Value = Value} r ≡ refusedBy s → r ≡ s

@@ -1,8 +1,9 @@
 -- The code's refusals and answers read as the paper's numbers and values: document 01, the table of 'Refusal numbers', case by case.
 -- Not here: when a refusal is given (specs/Checks). Assumes nothing.
-use mathlib.Core.List.{List}
-use Prim.Native.Nat.{ℕ}
+use mathlib.Core.List.{List, [], _∷_, _++_}
+use Prim.Native.Nat.{ℕ, _+_}
 use lib.ListN.{length}
+use Rattle.laws.specs.Strings.{ascii}
 use Rattle.answers.specs.Checks.{Check, passes, refuses, takesText}
 use Rattle.answers.specs.Verdicts.{Verdict, done, refused, Fills}
 use Rattle.answers.specs.declared.Refusal.{Refusal}
@@ -22,6 +23,10 @@ told NoSyllable = record { number = 4; place = 0 }
 told NoName = record { number = 5; place = 0 }
 told (NoRecord length) = record { number = 6; place = length }
 told (BadLayout byte) = record { number = 7; place = byte }
+
+-- the line that a program prints where it is refused (document 01, 'Programs')
+unfoldable pub refusedLine : Refusal → List ℕ
+refusedLine r = ascii "refused " ++ ((0x30 + told r .number) ∷ 0x0A ∷ [])
 
 -- a refusal as a verdict of any call
 abbrev pub refusedBy : {Value : Type 0} → Refusal → Verdict Value

@@ -1,8 +1,9 @@
 // Refusals, answers, and the first bad code point of a text (document 01, 'Refusal numbers').
 // What every call has in common, and nothing of Hangul.
 ghost use mathlib.Core.Path.{_≡_};
+ghost use lib.ListN.{length};
 ghost use Rattle.answers.specs.Checks.{bad, firstBad, takesBytes, takesText};
-ghost use Rattle.answers.specs.Answers.{told, checked};
+ghost use Rattle.answers.specs.Answers.{told, refusedLine, checked};
 
 // The most code points or bytes that a call takes.
 pub const LIMIT: usize = 16384;
@@ -77,6 +78,17 @@ pub fn tell(refusal: Refusal) -> Told
             place: byte,
         },
     }
+}
+
+// The line that a program prints where it is refused: "refused N".
+pub fn refusal_line(refusal: Refusal) -> [u8; 10]
+    ensures { λ r. ⌜ 10 ≡ length r ⌝ }
+    ensures { λ r. ⌜ r ≡ refusedLine refusal ⌝ }
+{
+    let told = tell(refusal);
+    let mut line = *b"refused 0\n";
+    line[8] = b'0' + told.number as u8;
+    line
 }
 
 // Over 10FFFF, or a surrogate.

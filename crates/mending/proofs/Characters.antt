@@ -216,8 +216,10 @@ module _ (text : List ℕ) (at : ℕ) where
       rw q (takes t w P n (grows (taking t w) P (pieces-behind text at t w P e) (inside-behind text at t w P e h)
       (pair-good (t .code) (codeOf utf8 w) n))))
 
--- r is the character at an index: the mended text is its bytes and then the mended text behind it
+-- r is the character at an index: the joined text is its code point and then the joined text behind it, and the mended text its bytes and then the
+-- mended text behind it
 pub record Character (text : List ℕ) (at : ℕ) (r : Taken) : Type 0 where
+  pub joins : join (readText (drop at text)) ≡ r .code ∷ join (readText (drop (at + r .size) text))
   pub goes : Goes text at (at + r .size) (bytesOf (r .code)) (r .ill)
   pub more : 1 ≤ r .size
   pub is-good : bad (r .code) ≡ false
@@ -229,17 +231,20 @@ mended-front x c y e = ap writeText e ∙ each-cons bytesOf c (join (readText y)
 
 module _ (text : List ℕ) (at : ℕ) where
   character-grown : (t : Taken) → Next text at t → {r : Taken} → Grows text at t (pieces kindOf (drop (at + t .size) text)) r → Character text at r
-  character-grown t n {r} g = record {
-    goes = record {
-      mends = mended-front (drop at text) (r .code) (drop (at + r .size) text) (ap join (n .read) ∙ g .joins);
-      ills = omega (arith, n .ills, g .ills, g .same);
-      on = omega arith;
-      inside = g .inside;
-    };
-    more = omega (arith, n .more, g .more);
-    is-good = g .is-good;
-    few = omega (arith, n .few, g .same);
-  }
+  character-grown t n {r} g =
+      let joins : join (readText (drop at text)) ≡ r .code ∷ join (readText (drop (at + r .size) text)) = ap join (n .read) ∙ g .joins in
+      record {
+        joins = joins;
+        goes = record {
+          mends = mended-front (drop at text) (r .code) (drop (at + r .size) text) joins;
+          ills = omega (arith, n .ills, g .ills, g .same);
+          on = omega arith;
+          inside = g .inside;
+        };
+        more = omega (arith, n .more, g .more);
+        is-good = g .is-good;
+        few = omega (arith, n .few, g .same);
+      }
 
   pub character-next : at < length text → {r : Taken} → r ≡ characterFrom (pieces kindOf (drop at text)) → Character text at r
   character-next h {r} e =

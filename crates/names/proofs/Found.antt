@@ -149,11 +149,11 @@ module _ {name : List ℕ} where
 
     -- r is what the search found: three indices, or none
     module _ {r : Found} (is : FoundIs name r) where
-      pub reads-found : {i p f : ℕ} → r ≡ At i p f → ReadsName name (Syllable (syllable i p f))
-      reads-found {i} {p} {f} e =
+      pub reads-found : {i p f s : ℕ} → r ≡ At i p f → s ≡ syllable i p f → ReadsName name (Syllable s)
+      reads-found {i} {p} {f} e q =
           let h = found-at name is e in
-          reads-some
-          (ap named (h .3 ∙ sym (name-made i p f (h .0) (h .1) (h .2))) ∙ named-some (syllable i p f) (syllable-made i p f (h .0) (h .1) (h .2)))
+          rw q (reads-some
+          (ap named (h .3 ∙ sym (name-made i p f (h .0) (h .1) (h .2))) ∙ named-some (syllable i p f) (syllable-made i p f (h .0) (h .1) (h .2))))
 
       pub reads-nothing : r ≡ Nothing → ReadsName name (Refused NoName)
       reads-nothing e =

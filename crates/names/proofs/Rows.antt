@@ -1,22 +1,22 @@
--- The tables of strings: four bytes to a row, of which the first is the length of the string as a digit. One test over all rows of a table,
--- which antt computes, and what it says of each row: the three functions that read a row cite it, each at its own table.
--- In order: a string by value is as long as it says (`string-size`, `spells-size`); a row and the test of it (`partAt`, `rightRow`); the law; the rows behind the last.
+-- The tables of strings: four bytes to a row, of which the first is the length of the string as a digit. In order: a string by value is as long as
+-- it says (`string-size`, `spells-size`); a row inside a table and behind its last (`part-inside`, `part-behind`); one test over all rows of a table,
+-- which antt computes, and what it says of the table (`rows-right`); a part that is a row's spells the row's string (`spelled`).
 -- Not here: the tables, which stand in the code, and the strings (specs/Names). Assumes nothing.
-use mathlib.Core.Path.{_≡_, sym, _∙_, ap}
-use mathlib.Core.Bool.{Bool, true, _&&_}
+use mathlib.Core.Path.{_≡_, refl, sym, _∙_, ap}
+use mathlib.Core.Bool.{Bool}
 use mathlib.Core.List.{List, [], _∷_}
-use Prim.Native.Nat.{ℕ, _+_, _-_, _*_, _≤_, _<_}
+use Prim.Native.Nat.{ℕ, _+_, _*_, _/_, _%_, _≤_, _<_}
+use native.Mathlib.Nat.{add-zero}
 use native.Mathlib.Omega.{arith}
-use lib.Dec.{T}
-use lib.ListN.{length, getD, List·getD-eq-default}
-use lib.Seq.{length-take-le}
-use Rattle.laws.specs.Ranges.{within}
+use lib.Dec.{T, ltb}
+use lib.ListN.{length, getD, drop, List·getD-eq-default}
+use lib.Seq.{length-take-le, getD-drop}
+use borrow.Author.Tests.{ltb-true, ltb-false, lt-ltb, le-ltb}
 use Rattle.laws.specs.Strings.{same}
-use Rattle.laws.proofs.Bools.{T-true, and-left, and-right}
-use Rattle.laws.proofs.Ranges.{within-least, within-most}
+use Rattle.laws.proofs.Bools.{test, T-true}
 use Rattle.laws.proofs.Strings.{same-true}
 use Rattle.laws.proofs.Tables.{every, every-at}
-use Rattle.names.specs.Naming.{stringOf, Spells}
+use Rattle.names.specs.Naming.{stringOf, Spells, partOf, partAt, Rows}
 use Rattle.names.specs.declared.strings.Part.{Part}
 
 -- ---- a string by value
@@ -29,43 +29,50 @@ spells-size {part} s = sym (string-size part (s .few)) ∙ ap length (s .is)
 
 -- ---- a row
 
-abbrev pub partAt : List ℕ → ℕ → Part
-partAt table row = record {
-  first = getD table (4 * row + 1) 0;
-  second = getD table (4 * row + 2) 0;
-  third = getD table (4 * row + 3) 0;
-  length = getD table (4 * row) 0 - 0x30;
-}
+module _ (rows : List ℕ) (row : ℕ) where
+  pub part-inside : row < length rows / 4 → partAt rows row ≡ partOf (drop (4 * row) rows)
+  unfolding partAt
+  part-inside h = simp (lt-ltb row (length rows / 4) h)
 
-abbrev digitAt : List ℕ → ℕ → ℕ
-digitAt table row = getD table (4 * row) 0
+  -- as the code reads it, byte by byte
+  pub part-read : row < length rows / 4 → record {
+    first = getD rows (4 * row + 1) 0;
+    second = getD rows (4 * row + 2) 0;
+    third = getD rows (4 * row + 3) 0;
+    length = getD rows (4 * row) 0 % 4;
+  } ≡ partAt rows row
+  part-read h = sym (part-inside h ∙ simp (getD-drop (4 * row) rows, add-zero))
 
--- the digit is one of 0 to 3, and the row is the string
+  pub part-behind : length rows / 4 ≤ row → partAt rows row ≡ partOf []
+  unfolding partAt
+  part-behind h = simp (le-ltb row (length rows / 4) h)
+
+-- ---- one test over all rows of a table, and what it says
+
+-- the row is the string
 abbrev pub rightRow : List ℕ → ℕ → List ℕ → Bool
-rightRow table row string = within 0x30 0x33 (digitAt table row) && same (stringOf (partAt table row)) string
+rightRow rows row string = same (stringOf (partOf (drop (4 * row) rows))) string
 
--- ---- what the test over all rows says of each
+module _ (rows : List ℕ) (strings : List (List ℕ)) (size : 4 * length strings ≡ length rows) where
+  row-spells : T (every (rightRow rows) 0 strings) → (row : ℕ) → row < length strings → Spells (partAt rows row) (getD strings row [])
+  row-spells t row h =
+      rw (part-inside rows row (omega arith)) (record {
+        is = same-true _ _ (T-true _ (every-at (rightRow rows) [] strings t row h));
+        few = omega arith;
+      })
 
-module _ (table : List ℕ) (strings : List (List ℕ)) (right : T (every (rightRow table) 0 strings)) (row : ℕ) (h : row < length strings) where
-  row-right : rightRow table row (getD strings row []) ≡ true
-  row-right = T-true _ (every-at (rightRow table) [] strings right row h)
+  row-behind : (row : ℕ) → length strings ≤ row → Spells (partAt rows row) (getD strings row [])
+  row-behind row h = rw (part-behind rows row (omega arith), List·getD-eq-default strings [] h) (record { is = refl; few = omega arith })
 
-  row-digit : within 0x30 0x33 (digitAt table row) ≡ true
-  row-digit = and-left (within 0x30 0x33 (digitAt table row)) (same (stringOf (partAt table row)) (getD strings row [])) row-right
+  pub rows-right : T (every (rightRow rows) 0 strings) → Rows rows strings
+  rows-right t = record {
+    size = size;
+    spells = λ row.
+        test (ltb row (length strings)) (λ h. row-spells t row (ltb-true row (length strings) h))
+        (λ h. row-behind row (ltb-false row (length strings) h));
+  }
 
-  row-same : same (stringOf (partAt table row)) (getD strings row []) ≡ true
-  row-same = and-right (within 0x30 0x33 (digitAt table row)) (same (stringOf (partAt table row)) (getD strings row [])) row-right
-
-  pub row-digit-least : 0x30 ≤ getD table (4 * row) 0
-  row-digit-least = within-least 0x30 0x33 (digitAt table row) row-digit
-
-  pub row-digit-most : getD table (4 * row) 0 ≤ 0x33
-  row-digit-most = within-most 0x30 0x33 (digitAt table row) row-digit
-
-  pub row-spells : Spells (partAt table row) (getD strings row [])
-  row-spells = record { is = same-true (stringOf (partAt table row)) (getD strings row []) row-same; few = omega (arith, row-digit-most) }
-
--- ---- behind the last row
-
-pub behind-spells : (strings : List (List ℕ)) (row : ℕ) → length strings ≤ row → {part : Part} → Spells part [] → Spells part (getD strings row [])
-behind-spells strings row h s = rw (List·getD-eq-default strings [] h) s
+-- a part that is a row's spells the row's string
+pub spelled : (row : ℕ) {rows : List ℕ} {strings : List (List ℕ)} {part : Part} → Rows rows strings → part ≡ partAt rows row
+    → Spells part (getD strings row [])
+spelled row are e = rw e (are .spells row)

@@ -214,82 +214,93 @@ module _ {rows : ℕ} {fits : Bool} {Passed : ℕ → Type 0} where
   tried-all : {row : ℕ} → Tried rows fits Passed row → rows ≤ row → (j : ℕ) → j < rows → Passed j
   tried-all t h j k = t .passed j (omega arith)
 
--- ---- the three searches
+-- ---- the three searches: a search of peaks keeps the initial's string, one of finals both strings
 
 pub record Initials (name : List ℕ) (i : ℕ) : Type 0 where
   tried : Tried 19 (begins prefix name) (NoPeak name) i
 
-pub record Peaks (name : List ℕ) (i p : ℕ) : Type 0 where
+pub record Peaks (name : List ℕ) (i : ℕ) (first : Part) (p : ℕ) : Type 0 where
+  pub initial : Spells first (getD initials i [])
   tried : Tried 21 (begins (getD initials i []) (drop 16 name)) (NoFinal name i) p
 
-pub record Finals (name : List ℕ) (i p f : ℕ) : Type 0 where
+pub record Finals (name : List ℕ) (i : ℕ) (first : Part) (p : ℕ) (second : Part) (f : ℕ) : Type 0 where
+  pub initial : Spells first (getD initials i [])
+  pub peak : Spells second (getD peaks p [])
   tried : Tried 28 (begins (getD peaks p []) (drop (behindInitial i) name)) (Miss name i p) f
 
--- the indices as the code has them, and its test of the final
-module _ (i : ℕ) {first : Part} (initial : Spells first (getD initials i [])) where
-  initial-behind : 16 + first .length ≡ behindInitial i
-  initial-behind = ap (λ (n : ℕ). 16 + n) (spells-size initial)
+-- the indices behind the strings, as the code has them
+initial-behind : {first : Part} (i : ℕ) → Spells first (getD initials i []) → 16 + first .length ≡ behindInitial i
+initial-behind i initial = ap (λ (n : ℕ). 16 + n) (spells-size initial)
 
-  module _ (p : ℕ) {second : Part} (peak : Spells second (getD peaks p [])) where
-    peak-behind : 16 + first .length + second .length ≡ behindPeak i p
-    peak-behind = omega (arith, initial-behind, spells-size peak)
-
-    final-told : (f : ℕ) {last : Part} → Spells last (getD finals f []) → (name : List ℕ) {told : Bool}
-        → told ≡ same (stringOf last) (drop (16 + first .length + second .length) name) → told ≡ same (getD finals f []) (drop (behindPeak i p) name)
-    final-told f final name e = e ∙ rw (final .is, peak-behind)
+peak-behind : {first second : Part} (i p : ℕ) → Spells first (getD initials i []) → Spells second (getD peaks p [])
+    → 16 + first .length + second .length ≡ behindPeak i p
+peak-behind i p initial peak = omega (arith, initial-behind i initial, spells-size peak)
 
 module _ {name : List ℕ} where
   -- each begins: `told` is what the code's test of what stands before said
   pub initials-none : {told : Bool} {i : ℕ} → told ≡ begins prefix name → i ≡ cond told 0 19 → Initials name i
   initials-none e q = record { tried = tried-none (λ h j k p l f m. prefix-miss name j p f h) e q }
 
+  pub peaks-none : {i : ℕ} {first : Part} → Spells first (getD initials i []) → {told : Bool} {p : ℕ}
+      → told ≡ begins (stringOf first) (drop 16 name) → p ≡ cond told 0 21 → Peaks name i first p
+  peaks-none {i} initial e q = record {
+    initial = initial;
+    tried = tried-none (λ h j k f l. initial-miss name i j f h) (e ∙ ap (λ (x : List ℕ). begins x (drop 16 name)) (initial .is)) q;
+  }
+
+  pub finals-none : {i p : ℕ} {first second : Part} → Peaks name i first p → Spells second (getD peaks p []) → {told : Bool} {f : ℕ}
+      → told ≡ begins (stringOf second) (drop (16 + first .length) name) → f ≡ cond told 0 28 → Finals name i first p second f
+  finals-none {i} {p} middle peak e q = record {
+    initial = middle .initial;
+    peak = peak;
+    tried = tried-none (λ h j k. peak-miss name i p j h) (e ∙ rw (peak .is, initial-behind i (middle .initial))) q;
+  }
+
+  -- the code's test of the final
+  final-told : {i p f : ℕ} {first second last : Part} → Finals name i first p second f → Spells last (getD finals f []) → {told : Bool}
+      → told ≡ same (stringOf last) (drop (16 + first .length + second .length) name) → told ≡ same (getD finals f []) (drop (behindPeak i p) name)
+  final-told {i} {p} inner final e = e ∙ rw (final .is, peak-behind i p (inner .initial) (inner .peak))
+
+  pub finals-more : {i p f : ℕ} {first second last : Part} → Finals name i first p second f → f < 28 → Spells last (getD finals f []) → {told : Bool}
+      → told ≡ same (stringOf last) (drop (16 + first .length + second .length) name) → told ≡ false → Finals name i first p second (f + 1)
+  finals-more {i} {p} {f} inner h final ends e = record {
+    initial = inner .initial;
+    peak = inner .peak;
+    tried = tried-more (inner .tried) h (final-miss name i p f (sym (final-told inner final ends) ∙ e));
+  }
+
+  pub peaks-more : {i p f : ℕ} {first second : Part} → Peaks name i first p → p < 21 → Finals name i first p second f → 28 ≤ f
+      → Peaks name i first (p + 1)
+  peaks-more middle h inner k = record { initial = middle .initial; tried = tried-more (middle .tried) h (tried-all (inner .tried) k) }
+
+  pub initials-more : {i p : ℕ} {first : Part} → Initials name i → i < 19 → Peaks name i first p → 21 ≤ p → Initials name (i + 1)
+  initials-more outer h middle k = record { tried = tried-more (outer .tried) h (tried-all (middle .tried) k) }
+
   pub initials-all : {i : ℕ} → Initials name i → 19 ≤ i → (j p f : ℕ) → j < 19 → p < 21 → f < 28 → name ≡ nameBy j p f → ⊥
   initials-all outer h j p f hj hp hf = tried-all (outer .tried) h j hj p hp f hf
 
-  pub initials-more : {i p : ℕ} → Initials name i → i < 19 → Peaks name i p → 21 ≤ p → Initials name (i + 1)
-  initials-more outer h middle k = record { tried = tried-more (outer .tried) h (tried-all (middle .tried) k) }
-
-  pub peaks-more : {i p f : ℕ} → Peaks name i p → p < 21 → Finals name i p f → 28 ≤ f → Peaks name i (p + 1)
-  peaks-more middle h inner k = record { tried = tried-more (middle .tried) h (tried-all (inner .tried) k) }
-
-  module _ {i : ℕ} {first : Part} (initial : Spells first (getD initials i [])) where
-    pub peaks-none : {told : Bool} {p : ℕ} → told ≡ begins (stringOf first) (drop 16 name) → p ≡ cond told 0 21 → Peaks name i p
-    peaks-none e q =
-        record { tried = tried-none (λ h j k f l. initial-miss name i j f h) (e ∙ ap (λ (x : List ℕ). begins x (drop 16 name)) (initial .is)) q }
-
-    module _ {p : ℕ} {second : Part} (peak : Spells second (getD peaks p [])) where
-      pub finals-none : {told : Bool} {f : ℕ} → told ≡ begins (stringOf second) (drop (16 + first .length) name) → f ≡ cond told 0 28
-          → Finals name i p f
-      finals-none e q =
-          record { tried = tried-none (λ h j k. peak-miss name i p j h) (e ∙ rw (peak .is, initial-behind i initial)) q }
-
-      module _ {f : ℕ} {last : Part} (final : Spells last (getD finals f [])) {told : Bool}
-          (ends : told ≡ same (stringOf last) (drop (16 + first .length + second .length) name)) where
-        pub finals-more : Finals name i p f → f < 28 → told ≡ false → Finals name i p (f + 1)
-        finals-more inner h e =
-            let not-there = sym (final-told i initial p peak f final name ends) ∙ e in
-            record { tried = tried-more (inner .tried) h (final-miss name i p f not-there) }
-
-        pub finals-found : Initials name i → i < 19 → Peaks name i p → p < 21 → Finals name i p f → f < 28 → told ≡ true
-            → (i < 19) × (p < 21) × (f < 28) × (name ≡ nameBy i p f)
-        finals-found outer hi middle hp inner hf e =
-            let there = sym (final-told i initial p peak f final name ends) ∙ e in
-            (hi, hp, hf, name-there name i p f (outer .tried .fitting hi) (middle .tried .fitting hp) (inner .tried .fitting hf) there)
-
-  -- where a row is looked at, what stands before fits: the name is long enough
+  -- where a row is looked at, what stands before fits: so the name is long enough, and where the final fits too, it is found
   module _ {i : ℕ} (outer : Initials name i) (hi : i < 19) where
     pub prefix-long : 16 ≤ length name
     unfolding prefix
     prefix-long = begins-least prefix name (outer .tried .fitting hi)
 
-    module _ {p : ℕ} (middle : Peaks name i p) (hp : p < 21) {first : Part} (initial : Spells first (getD initials i [])) where
+    module _ {p : ℕ} {first : Part} (middle : Peaks name i first p) (hp : p < 21) where
       pub initial-long : 16 + first .length ≤ length name
       initial-long =
           let least = begins-least (getD initials i []) (drop 16 name) (middle .tried .fitting hp) in
-          omega (arith, prefix-long, least, length-drop 16 name, initial-behind i initial)
+          omega (arith, prefix-long, least, length-drop 16 name, initial-behind i (middle .initial))
 
-      pub peak-long : {f : ℕ} → Finals name i p f → f < 28 → {second : Part} → Spells second (getD peaks p [])
-          → 16 + first .length + second .length ≤ length name
-      peak-long inner hf peak =
-          let least = begins-least (getD peaks p []) (drop (behindInitial i) name) (inner .tried .fitting hf) in
-          omega (arith, initial-long, least, length-drop (behindInitial i) name, initial-behind i initial, peak-behind i initial p peak)
+      module _ {f : ℕ} {second : Part} (inner : Finals name i first p second f) (hf : f < 28) where
+        pub peak-long : 16 + first .length + second .length ≤ length name
+        peak-long =
+            let least = begins-least (getD peaks p []) (drop (behindInitial i) name) (inner .tried .fitting hf) in
+            let behind = peak-behind i p (inner .initial) (inner .peak) in
+            omega (arith, initial-long, least, length-drop (behindInitial i) name, initial-behind i (inner .initial), behind)
+
+        pub finals-found : {last : Part} → Spells last (getD finals f []) → {told : Bool}
+            → told ≡ same (stringOf last) (drop (16 + first .length + second .length) name) → told ≡ true
+            → (i < 19) × (p < 21) × (f < 28) × (name ≡ nameBy i p f)
+        finals-found final ends e =
+            let there = sym (final-told inner final ends) ∙ e in
+            (hi, hp, hf, name-there name i p f (outer .tried .fitting hi) (middle .tried .fitting hp) (inner .tried .fitting hf) there)

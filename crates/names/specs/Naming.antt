@@ -4,14 +4,15 @@ use mathlib.Core.Path.{_≡_}
 use mathlib.Core.Bool.{Bool, cond}
 use mathlib.Core.Option.{Option, none, some}
 use mathlib.Core.List.{List, [], _∷_, _++_}
-use Prim.Native.Nat.{ℕ, _+_, _*_, _≤_, _<_}
-use lib.ListN.{length, take}
+use Prim.Native.Nat.{ℕ, _+_, _*_, _/_, _%_, _≤_, _<_}
+use lib.Dec.{ltb}
+use lib.ListN.{length, getD, take, drop}
 use Rattle.answers.specs.Checks.{Check, passes, refuses, inOrder, takesBytes}
 use Rattle.answers.specs.Verdicts.{Verdict, done, verdict, Fills}
 use Rattle.answers.specs.Answers.{filled, refusedBy}
 use Rattle.answers.specs.declared.Filled.{Filled}
 use Rattle.letters.specs.Syllables.{isSyllable, initialOf, peakOf, finalOf}
-use Rattle.names.specs.Names.{prefix, nameBy, nameOf, named}
+use Rattle.names.specs.Names.{initials, peaks, finals, prefix, nameBy, nameOf, named}
 use Rattle.names.specs.declared.strings.Part.{Part}
 use Rattle.names.specs.declared.naming.Indices.{Indices}
 use Rattle.names.specs.declared.reading.Found.{Found}
@@ -28,6 +29,10 @@ noSyllable code = cond (isSyllable code) passes (refuses 4 0)
 -- THE CONTRACT of naming: 4, then 3, never 2
 pub record Names (code : ℕ) (out : List ℕ) (r : Filled) (out′ : List ℕ) : Type 0 where
   pub fills : Fills (noSyllable code) (nameOf code) (length (nameOf code)) out (filled r) out′
+
+-- the name of I, P and F: 3
+pub record NamesBy (i p f : ℕ) (out : List ℕ) (r : Filled) (out′ : List ℕ) : Type 0 where
+  pub fills : Fills passes (nameBy i p f) (length (nameBy i p f)) out (filled r) out′
 
 -- the three indices of a syllable
 abbrev pub indicesOf : ℕ → Indices
@@ -67,3 +72,29 @@ stringOf part = take (part .length) (part .first ∷ part .second ∷ part .thir
 pub record Spells (part : Part) (string : List ℕ) : Type 0 where
   pub is : stringOf part ≡ string
   pub few : part .length ≤ 3
+
+-- four bytes to a row: how long the string is, as a digit, and the string
+abbrev pub partOf : List ℕ → Part
+partOf row = record { first = getD row 1 0; second = getD row 2 0; third = getD row 3 0; length = getD row 0 0 % 4 }
+
+-- the row of a table; behind its last row there is an empty string
+unfoldable pub partAt : List ℕ → ℕ → Part
+partAt rows row = partOf (cond (ltb row (length rows / 4)) (drop (4 * row) rows) [])
+
+-- a table's rows are the strings, in order
+pub record Rows (rows : List ℕ) (strings : List (List ℕ)) : Type 0 where
+  pub size : 4 * length strings ≡ length rows
+  pub spells : (row : ℕ) → Spells (partAt rows row) (getD strings row [])
+
+abbrev pub InitialRows : List ℕ → Type 0
+InitialRows rows = Rows rows initials
+
+abbrev pub PeakRows : List ℕ → Type 0
+PeakRows rows = Rows rows peaks
+
+abbrev pub FinalRows : List ℕ → Type 0
+FinalRows rows = Rows rows finals
+
+-- what is written for three strings
+abbrev pub spelledOut : Part → Part → Part → List ℕ
+spelledOut initial peak last = prefix ++ (stringOf initial ++ (stringOf peak ++ stringOf last))

@@ -10,8 +10,8 @@ ghost use Prim.Native.Nat.{_≤_, _<_};
 ghost use lib.ListN.{length};
 ghost use Rattle.laws.specs.Writing.{Room, Wrote};
 ghost use Rattle.letters.specs.Syllables.{isSyllable};
-ghost use Rattle.names.specs.Names.{prefix, nameBy};
-ghost use Rattle.names.specs.Naming.{indicesOf, stringOf, Names};
+ghost use Rattle.names.specs.Names.{prefix};
+ghost use Rattle.names.specs.Naming.{indicesOf, stringOf, spelledOut, NamesBy, Names};
 
 // I, P and F.
 pub struct Indices {
@@ -68,25 +68,30 @@ fn put_prefix(out: &mut [u8]) -> usize
     at
 }
 
-// How long the name of three indices is.
-fn name_length(indices: Indices) -> usize
-    ensures { λ r. ⌜ r ≡ length (nameBy (indices .initial) (indices .peak) (indices .last)) ⌝ }
+// Writes the prefix and three strings to the front of `out`, which has room for them.
+fn put_name(initial: Part, peak: Part, last: Part, out: &mut [u8]) -> usize
+    requires { ⌜ (initial .length ≤ 3) × (peak .length ≤ 3) × (last .length ≤ 3) ⌝ }
+    requires { ⌜ length (spelledOut initial peak last) ≤ length (now out) ⌝ }
+    ensures { λ r. ⌜ Wrote (now (out .entry)) 0 (spelledOut initial peak last) r (now (out .exit)) ⌝ }
+{
+    let behind_prefix = put_prefix(out);
+    let behind_initial = put_part(initial, out, behind_prefix);
+    let behind_peak = put_part(peak, out, behind_initial);
+    put_part(last, out, behind_peak)
+}
+
+// Names a syllable by its three indices, where there is room.
+fn name_by(indices: Indices, out: &mut [u8]) -> Filled
+    ensures { λ r. ⌜ NamesBy (indices .initial) (indices .peak) (indices .last) (now (out .entry)) r (now (out .exit)) ⌝ }
 {
     let initial = strings::initial(indices.initial);
     let peak = strings::peak(indices.peak);
     let last = strings::last(indices.last);
-    16 + initial.length + peak.length + last.length
-}
-
-// Writes the name of three indices to the front of `out`, which has room for it.
-fn put_name(indices: Indices, out: &mut [u8]) -> usize
-    requires { ⌜ length (nameBy (indices .initial) (indices .peak) (indices .last)) ≤ length (now out) ⌝ }
-    ensures { λ r. ⌜ Wrote (now (out .entry)) 0 (nameBy (indices .initial) (indices .peak) (indices .last)) r (now (out .exit)) ⌝ }
-{
-    let behind_prefix = put_prefix(out);
-    let behind_initial = put_part(strings::initial(indices.initial), out, behind_prefix);
-    let behind_peak = put_part(strings::peak(indices.peak), out, behind_initial);
-    put_part(strings::last(indices.last), out, behind_peak)
+    let needed = 16 + initial.length + peak.length + last.length;
+    if out.len() < needed {
+        return Filled::Refused(Refusal::NoRoom(needed));
+    }
+    Filled::Done(put_name(initial, peak, last, out))
 }
 
 // Names a syllable: refusals 4 and 3.
@@ -99,10 +104,5 @@ pub fn name(code: u32, out: &mut [u8]) -> Filled
     if 0xD7A3 < code {
         return Filled::Refused(Refusal::NoSyllable);
     }
-    let indices = indices_of(code);
-    let needed = name_length(indices);
-    if out.len() < needed {
-        return Filled::Refused(Refusal::NoRoom(needed));
-    }
-    Filled::Done(put_name(indices, out))
+    name_by(indices_of(code), out)
 }

@@ -6,12 +6,12 @@ use answers::Checked;
 use answers::Refusal;
 ghost use mathlib.Core.Path.{_≡_};
 ghost use mathlib.Core.Bool.{cond};
-ghost use Prim.Native.Nat.{_+_, _≤_, _<_};
+ghost use Prim.Native.Nat.{_+_, _*_, _≤_, _<_};
 ghost use lib.ListN.{length, drop};
 ghost use Rattle.laws.specs.Strings.{begins, same};
 ghost use Rattle.answers.specs.Checks.{passes, takesBytes};
 ghost use Rattle.names.specs.Names.{prefix};
-ghost use Rattle.names.specs.Naming.{stringOf, ReadsName, FoundIs};
+ghost use Rattle.names.specs.Naming.{stringOf, InitialRows, PeakRows, FinalRows, ReadsName, FoundIs};
 
 // What the search finds: I, P and F.
 pub enum Found {
@@ -95,7 +95,10 @@ fn begins_so(name: &[u8]) -> bool
 
 // The three indices whose strings are the name. An inner table is searched only where the outer
 // string fits, and the search is left as soon as all three fit.
-fn search(name: &[u8]) -> Found
+fn search(name: &[u8], initials: &[u8], peaks: &[u8], finals: &[u8]) -> Found
+    requires { ⌜ InitialRows (now initials) ⌝ }
+    requires { ⌜ PeakRows (now peaks) ⌝ }
+    requires { ⌜ FinalRows (now finals) ⌝ }
     ensures { λ r. ⌜ FoundIs (now (name .entry)) r ⌝ }
 {
     let mut i = start(begins_so(name), 19);
@@ -103,14 +106,18 @@ fn search(name: &[u8]) -> Found
         if 19 <= i {
             break 'search Found::Nothing;
         }
-        let initial = strings::initial(i);
+        let initial = strings::string_at(initials, i);
         let mut p = start(goes_on(name, 16, initial), 21);
         while p < 21 {
-            let peak = strings::peak(p);
+            let peak = strings::string_at(peaks, p);
             let behind_initial = 16 + initial.length;
             let mut f = start(goes_on(name, behind_initial, peak), 28);
             while f < 28 {
-                if ends(name, behind_initial + peak.length, strings::last(f)) {
+                if ends(
+                    name,
+                    behind_initial + peak.length,
+                    strings::string_at(finals, f),
+                ) {
                     break 'search Found::At(i, p, f);
                 }
                 f += 1;
@@ -122,14 +129,25 @@ fn search(name: &[u8]) -> Found
     found
 }
 
+// The syllable of three indices.
+fn syllable_by(i: usize, p: usize, f: usize) -> u32
+    requires { ⌜ (i < 19) × (p < 21) × (f < 28) ⌝ }
+    ensures { λ r. ⌜ r ≡ 0xAC00 + i * 588 + p * 28 + f ⌝ }
+{
+    (0xAC00 + i * 588 + p * 28 + f) as u32
+}
+
 // A name that has passed its check: refusal 5 or the syllable.
 fn read_checked(name: &[u8]) -> Named
     requires { ⌜ takesBytes (now name) ≡ passes ⌝ }
     ensures { λ r. ⌜ ReadsName (now (name .entry)) r ⌝ }
 {
-    let found = search(name);
+    let initials = strings::initial_rows();
+    let peaks = strings::peak_rows();
+    let finals = strings::final_rows();
+    let found = search(name, &initials, &peaks, &finals);
     match found {
-        Found::At(i, p, f) => Named::Syllable((0xAC00 + i * 588 + p * 28 + f) as u32),
+        Found::At(i, p, f) => Named::Syllable(syllable_by(i, p, f)),
         Found::Nothing => Named::Refused(Refusal::NoName),
     }
 }

@@ -1,9 +1,10 @@
-// The strings of names: three constant tables, read row by row (document 01, 'Names').
+// The strings of names: three constant tables, and one row of such a table (document 01, 'Names').
 // Not here: what is done with a string (naming, reading).
+ghost use mathlib.Core.Path.{_≡_};
 ghost use mathlib.Core.List.{[]};
-ghost use lib.ListN.{getD};
+ghost use lib.ListN.{length, getD};
 ghost use Rattle.names.specs.Names.{initials, peaks, finals};
-ghost use Rattle.names.specs.Naming.{Spells};
+ghost use Rattle.names.specs.Naming.{Spells, partAt, Rows};
 
 // Four bytes to a row: how long the string is, as a digit, and the string.
 const INITIALS: [u8; 76] =
@@ -23,61 +24,72 @@ pub struct Part {
     pub length: usize,
 }
 
-fn empty() -> Part
-    ensures { λ r. ⌜ Spells r [] ⌝ }
+// The table of the initials' strings. A search takes it once and lends it on, since each use of the
+// constant puts the whole table on the stack.
+pub(crate) fn initial_rows() -> [u8; 76]
+    ensures { λ r. ⌜ 76 ≡ length r ⌝ }
+    ensures { λ r. ⌜ Rows r initials ⌝ }
 {
+    INITIALS
+}
+
+// The peaks'.
+pub(crate) fn peak_rows() -> [u8; 84]
+    ensures { λ r. ⌜ 84 ≡ length r ⌝ }
+    ensures { λ r. ⌜ Rows r peaks ⌝ }
+{
+    PEAKS
+}
+
+// The finals'.
+pub(crate) fn final_rows() -> [u8; 112]
+    ensures { λ r. ⌜ 112 ≡ length r ⌝ }
+    ensures { λ r. ⌜ Rows r finals ⌝ }
+{
+    FINALS
+}
+
+// The string of one row; behind the last row there is an empty one.
+pub(crate) fn string_at(rows: &[u8], row: usize) -> Part
+    ensures { λ r. ⌜ r ≡ partAt (now (rows .entry)) row ⌝ }
+{
+    if rows.len() / 4 <= row {
+        return Part {
+            first: 0,
+            second: 0,
+            third: 0,
+            length: 0,
+        };
+    }
+    let at = 4 * row;
     Part {
-        first: b' ',
-        second: b' ',
-        third: b' ',
-        length: 0,
+        first: rows[at + 1],
+        second: rows[at + 2],
+        third: rows[at + 3],
+        length: (rows[at] % 4) as usize,
     }
 }
 
-// The initial's string; behind the last row there is an empty one.
+// The string of an initial by itself, for a call that needs no other.
 pub(crate) fn initial(row: usize) -> Part
     ensures { λ r. ⌜ Spells r (getD initials row []) ⌝ }
 {
-    if 19 <= row {
-        return empty();
-    }
-    let at = 4 * row;
-    Part {
-        first: INITIALS[at + 1],
-        second: INITIALS[at + 2],
-        third: INITIALS[at + 3],
-        length: (INITIALS[at] - b'0') as usize,
-    }
+    let rows = initial_rows();
+    string_at(&rows, row)
 }
 
-// The peak's.
+// Of a peak.
 pub(crate) fn peak(row: usize) -> Part
     ensures { λ r. ⌜ Spells r (getD peaks row []) ⌝ }
 {
-    if 21 <= row {
-        return empty();
-    }
-    let at = 4 * row;
-    Part {
-        first: PEAKS[at + 1],
-        second: PEAKS[at + 2],
-        third: PEAKS[at + 3],
-        length: (PEAKS[at] - b'0') as usize,
-    }
+    let rows = peak_rows();
+    string_at(&rows, row)
 }
 
-// The final's.
+// Of a final.
 pub(crate) fn last(row: usize) -> Part
     ensures { λ r. ⌜ Spells r (getD finals row []) ⌝ }
 {
-    if 28 <= row {
-        return empty();
-    }
-    let at = 4 * row;
-    Part {
-        first: FINALS[at + 1],
-        second: FINALS[at + 2],
-        third: FINALS[at + 3],
-        length: (FINALS[at] - b'0') as usize,
-    }
+    let rows = final_rows();
+    string_at(&rows, row)
 }

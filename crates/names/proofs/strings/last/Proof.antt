@@ -1,77 +1,22 @@
--- `names::strings::last` meets its contract: the rows of its table are the strings of `finals`, by a computed test.
+-- `names::strings::last` meets its contract: the string is that of its row in the table of `finals`.
 -- Assumes nothing.
-use mathlib.Core.List.{List}
-use Prim.Native.Nat.{ℕ}
-use native.Mathlib.Omega.{arith}
-use Rattle.laws.specs.Ranges.{within}
-use Rattle.laws.specs.Strings.{ascii}
-use Rattle.names.specs.Names.{finals}
-use Rattle.names.proofs.Rows.{row-digit-least, row-digit-most, row-spells, behind-spells}
+use Rattle.names.proofs.Rows.{spelled}
 use borrow.Author.Needs.{needs}
 use Rattle.names.proofs.strings.last.Statement.{statement}
 use Rattle.names.proofs.strings.last.Tie as tie
 
--- the code's table
-abbrev table : List ℕ
-table = ascii "0   1G  2GG 2GS 1N  2NJ 2NH 1D  1L  2LG 2LM 2LB 2LS 2LT 2LP 2LH 1M  1B  2BS 1S  2SS 2NG 1J  1C  1K  1T  1P  1H  "
+final-rows-requires : tie.Need-final-rows-requires
+final-rows-requires c κs = search needs
 
-empty-requires : tie.Need-empty-requires
-empty-requires c κs = search needs
+slice-aggregate-string-at : tie.Need-slice-aggregate-string-at
+slice-aggregate-string-at c = search needs
+
+string-at-requires : tie.Need-string-at-requires
+string-at-requires c κs = search needs
 
 returns : tie.Need-returns
-unfolding finals
-returns c = behind-spells finals _ (c .before .if1 .taken) (c .empty .ensures)
-
-mul-at : tie.Need-mul-at
-mul-at c = search needs
-
-add-t5 : tie.Need-add-t5
-add-t5 c = search needs
-
-array-read-t8 : tie.Need-array-read-t8
-array-read-t8 c = search needs
-
-add-t10 : tie.Need-add-t10
-add-t10 c = search needs
-
-array-read-t13 : tie.Need-array-read-t13
-array-read-t13 c = search needs
-
-add-t15 : tie.Need-add-t15
-add-t15 c = search needs
-
-array-read-t18 : tie.Need-array-read-t18
-array-read-t18 c = search needs
-
-array-read-t22 : tie.Need-array-read-t22
-array-read-t22 c = search needs
-
-sub-t23 : tie.Need-sub-t23
-unfolding finals within
-sub-t23 c = row-digit-least table finals tt _ (c .if1 .left)
-
-cast-t24 : tie.Need-cast-t24
-unfolding finals within
-cast-t24 c = omega (arith, row-digit-most table finals tt _ (c .if1 .left))
-
-returns-2 : tie.Need-returns-2
-unfolding finals within
-returns-2 c = row-spells table finals tt _ (c .if1 .left)
+returns c = spelled _ (c .before .before .final-rows .ensures .1) (c .string-at .ensures)
 
 pub last-spec : {M : Type 1} → statement M
 last-spec =
-    tie.close
-    (tie.spec
-    empty-requires
-    returns
-    mul-at
-    add-t5
-    array-read-t8
-    add-t10
-    array-read-t13
-    add-t15
-    array-read-t18
-    array-read-t22
-    sub-t23
-    cast-t24
-    returns-2)
+    tie.close (tie.spec final-rows-requires slice-aggregate-string-at string-at-requires returns)

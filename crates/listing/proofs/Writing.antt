@@ -1,0 +1,156 @@
+-- Writing a character's line. In order: the last four digits fit (`four-fits`); a code in hex in pieces, the digits before the last four and these
+-- (`four-piece`, `five-piece`, `six-piece`); the name or - (`name-yes`, `name-none`), as naming answers (`done-named`, `refused-named`), in the part of a
+-- buffer from an index on (`put-front`, `name-fits`, `wrote-named`, `refused-index`, `wrote-unnamed`); the line, with room for each part where the whole
+-- has (`room-hex`, `room-space`, `room-name`, `room-feed`, `wrote-line`, `line-fits`).
+-- Not here: the digits (proofs/Hex), how long a line is at most (proofs/Bound). Assumes nothing.
+use mathlib.Core.Path.{_≡_, refl, sym, _∙_, ap}
+use mathlib.Core.Bool.{true, false}
+use mathlib.Core.List.{List, [], _∷_, _++_, append-assoc}
+use Prim.Native.Nat.{ℕ, _+_, _-_, _/_, _%_, _≤_, _<_}
+use native.Mathlib.Omega.{arith}
+use lib.ListN.{length, take, drop, set, take-append-drop}
+use lib.Seq.{sets, sets-eq, drop-drop, drop-append-le}
+use borrow.Rule.Slice.PartMut.{midOf, postOf, putMid, mid-len, put-same}
+use Rattle.laws.specs.Writing.{front, Room, Wrote}
+use Rattle.laws.proofs.Bools.{test}
+use Rattle.laws.proofs.Filling.{Piece, wrote-one, wrote-two, room-one, room-first, room-second}
+use Rattle.answers.specs.declared.Refusal.{Refusal}
+use Rattle.answers.specs.declared.Filled.{Filled}
+use Rattle.answers.specs.declared.Filled.the-variants.{Done, Refused}
+use Rattle.letters.specs.Syllables.{isSyllable}
+use Rattle.names.specs.Names.{nameOf}
+use Rattle.names.specs.Naming.{Names}
+use Rattle.names.proofs.Writing.{names-refused}
+use Rattle.names.proofs.Found.{names-unique, names-whole}
+use Rattle.listing.specs.Listing.{digitOf, lastFour, hexOf, nameOrNone, lineOf}
+use Rattle.listing.proofs.Hex.{four-long, hex-four, hex-five, hex-six}
+
+-- ---- a code in hex: d, or d and e, are the digits before the last four, as the code finds them
+
+module _ (c : ℕ) where
+  pub four-fits : {out : List ℕ} {at : ℕ} → Room out at (lastFour c) → at + 4 ≤ length out
+  four-fits room = omega (arith, room .fits, four-long c)
+
+  pub four-piece : c < 0x10000 → Piece (hexOf c) [] (lastFour c)
+  four-piece h = record { eq = hex-four c h }
+
+  pub five-piece : 0x10000 ≤ c → c < 0x100000 → {d : ℕ} → d ≡ digitOf (c / 0x10000 % 16) → Piece (hexOf c) (d ∷ []) (lastFour c)
+  five-piece h k p = record { eq = rw p (hex-five c h k) }
+
+  pub six-piece : 0x100000 ≤ c → {d e : ℕ} → d ≡ digitOf (c / 0x100000 % 16) → e ≡ digitOf (c / 0x10000 % 16) → Piece (hexOf c) (d ∷ e ∷ []) (lastFour c)
+  six-piece h p q = record { eq = rw (p, q) (hex-six c h) }
+
+-- ---- the name or -
+
+done-is-refused : {k : ℕ} {refusal : Refusal} → _≡_ {A = Filled} (Done k) (Refused refusal) → ⊥
+done-is-refused e = let z : _≡_ {A = ℕ} 0 1 = cc in omega arith
+
+module _ (c : ℕ) where
+  pub name-yes : isSyllable c ≡ true → nameOrNone c ≡ nameOf c
+  unfolding nameOrNone
+  name-yes h = rw h
+
+  pub name-none : isSyllable c ≡ false → nameOrNone c ≡ 0x2D ∷ []
+  unfolding nameOrNone
+  name-none h = rw h
+
+-- what naming answers, and leaves
+module _ (c : ℕ) {out out′ : List ℕ} {r : Filled} (room : length (nameOrNone c) ≤ length out) (named : Names c out r out′) where
+  done-named : {k : ℕ} → r ≡ Done k → (k ≡ length (nameOrNone c)) × (out′ ≡ front (nameOrNone c) out)
+  done-named {k} e =
+      test (isSyllable c)
+      (λ h.
+      let same = names-unique named (names-whole c h (rw (name-yes c h) at room)) in
+      let sizes : Done k ≡ Done (length (nameOf c)) = sym e ∙ same .0 in
+      rw (name-yes c h) (cc, same .1))
+      (λ h. absurd (done-is-refused (sym e ∙ names-unique named (names-refused c h) .0)))
+
+  refused-named : {refusal : Refusal} → r ≡ Refused refusal → (nameOrNone c ≡ 0x2D ∷ []) × (out′ ≡ out)
+  refused-named e =
+      test (isSyllable c)
+      (λ h. absurd (done-is-refused (sym (names-unique named (names-whole c h (rw (name-yes c h) at room)) .0) ∙ e)))
+      (λ h. (name-none c h, names-unique named (names-refused c h) .1))
+
+-- ---- the part of a buffer from an index on is lent, and put back
+
+abbrev behind : List ℕ → ℕ → List ℕ
+behind out at = midOf at (length out - at) out
+
+abbrev withBehind : List ℕ → ℕ → List ℕ → List ℕ
+withBehind out at part = putMid at (length out - at) out part
+
+module _ (out : List ℕ) (at : ℕ) where
+  behind-long : length (behind out at) ≡ length out - at
+  behind-long = mid-len at (length out) out (omega arith)
+
+  -- what fills the front of the part stands in the buffer from the index on
+  put-front : (xs : List ℕ) → at + length xs ≤ length out → withBehind out at (front xs (behind out at)) ≡ sets out at xs
+  put-front xs h =
+      let fits : length xs ≤ length (behind out at) = omega (arith, behind-long) in
+      let rest : drop (length xs) (behind out at) ++ postOf at (length out - at) out ≡ drop (at + length xs) out =
+      sym (drop-append-le (length xs) (behind out at) (postOf at (length out - at) out) fits)
+      ∙ ap (drop (length xs)) (take-append-drop (length out - at) (drop at out)) ∙ drop-drop (length xs) at out in
+      rw (sets-eq xs out at h) (simp append-assoc (ap (λ (l : List ℕ). take at out ++ (xs ++ l)) rest))
+
+module _ (c : ℕ) {out part : List ℕ} {at : ℕ} {r : Filled} (room : Room out at (nameOrNone c)) (named : Names c (behind out at) r part) where
+  room-part : length (nameOrNone c) ≤ length (behind out at)
+  room-part = omega (arith, room .fits, behind-long out at)
+
+  module _ {k : ℕ} (done : r ≡ Done k) where
+    pub name-fits : at + k ≤ length out
+    name-fits = omega (arith, room .fits, done-named c room-part named done .0)
+
+    pub wrote-named : Wrote out at (nameOrNone c) (at + k) (withBehind out at part)
+    wrote-named =
+        let h = done-named c room-part named done in
+        record { behind = ap (λ (n : ℕ). at + n) (h .0); holds = rw (h .1) (put-front out at (nameOrNone c) (room .fits)) }
+
+  module _ {refusal : Refusal} (refused : r ≡ Refused refusal) where
+    put-back : withBehind out at part ≡ out
+    put-back = ap (withBehind out at) (refused-named c room-part named refused .1) ∙ put-same at (length out - at) out
+
+    pub refused-index : at < length (withBehind out at part)
+    refused-index = rw put-back (room-one room (refused-named c room-part named refused .0))
+
+    pub wrote-unnamed : Wrote out at (nameOrNone c) (at + 1) (set (withBehind out at part) at 0x2D)
+    wrote-unnamed = rw put-back (wrote-one (refused-named c room-part named refused .0))
+
+-- ---- the line
+
+module _ (c : ℕ) {out : List ℕ} {at : ℕ} (room : Room out at (lineOf c)) where
+  line-piece : Piece (lineOf c) (hexOf c) (0x20 ∷ (nameOrNone c ++ (0x0A ∷ [])))
+  unfolding lineOf
+  line-piece = record { eq = refl }
+
+  pub room-hex : Room out at (hexOf c)
+  room-hex = room-first room line-piece
+
+  module _ {behind-code : ℕ} {out₁ : List ℕ} (wrote-hex : Wrote out at (hexOf c) behind-code out₁) where
+    space-piece : Piece (0x20 ∷ (nameOrNone c ++ (0x0A ∷ []))) (0x20 ∷ []) (nameOrNone c ++ (0x0A ∷ []))
+    space-piece = record { eq = refl }
+
+    room-behind : Room out₁ behind-code (0x20 ∷ (nameOrNone c ++ (0x0A ∷ [])))
+    room-behind = room-second room line-piece wrote-hex
+
+    pub room-space : behind-code < length out₁
+    room-space = room-one (room-first room-behind space-piece) refl
+
+    name-piece : Piece (nameOrNone c ++ (0x0A ∷ [])) (nameOrNone c) (0x0A ∷ [])
+    name-piece = record { eq = refl }
+
+    room-rest : Room (set out₁ behind-code 0x20) (behind-code + 1) (nameOrNone c ++ (0x0A ∷ []))
+    room-rest = room-second room-behind space-piece (wrote-one refl)
+
+    pub room-name : Room (set out₁ behind-code 0x20) (behind-code + 1) (nameOrNone c)
+    room-name = room-first room-rest name-piece
+
+    module _ {behind-name : ℕ} {out₂ : List ℕ} (wrote-name : Wrote (set out₁ behind-code 0x20) (behind-code + 1) (nameOrNone c) behind-name out₂) where
+      pub room-feed : behind-name < length out₂
+      room-feed = room-one (room-second room-rest name-piece wrote-name) refl
+
+      pub wrote-line : Wrote out at (lineOf c) (behind-name + 1) (set out₂ behind-name 0x0A)
+      wrote-line =
+          wrote-two line-piece wrote-hex (wrote-two space-piece (wrote-one refl) (wrote-two name-piece wrote-name (wrote-one refl)))
+
+      pub line-fits : behind-name + 1 ≤ length out
+      line-fits = omega (arith, room .fits, wrote-line .behind)
