@@ -33,6 +33,16 @@ unfolding partsTo
 parts-other zero c h = refl
 parts-other (suc d) c h = rw (step-other c h, each-one) (parts-other d c h)
 
+-- there is one at least
+step-some : (c : ℕ) → 1 ≤ length (oneStep c)
+step-some c =
+    by-step c (λ h e. rw (step-lv c h e) (omega arith)) (λ h e. rw (step-lvt c h e) (omega arith)) (λ h. rw (step-other c h) (omega arith))
+
+pub parts-some : (d c : ℕ) → 1 ≤ length (partsTo d c)
+unfolding partsTo
+parts-some zero c = omega arith
+parts-some (suc d) c = omega (arith, step-some c, length-each-least (partsTo d) (parts-some d) (oneStep c))
+
 -- one part, and two: p is what the code's one step answered
 pub parts-one : (d c : ℕ) {p : Parts} {a : ℕ} → listed p ≡ oneStep c → p ≡ One a → partsTo d c ≡ a ∷ []
 parts-one d c {p} {a} q r =
@@ -107,8 +117,7 @@ parts-deeper d c =
 -- ---- their number
 
 pub parts-least : (c : ℕ) → 1 ≤ length (partsOf c)
-parts-least c =
-    by-step c (λ h e. rw (parts-lv 0 c h e) (omega arith)) (λ h e. rw (parts-lvt 0 c h e) (omega arith)) (λ h. rw (parts-other 2 c h) (omega arith))
+parts-least c = parts-some 2 c
 
 pub parts-most : (c : ℕ) → length (partsOf c) ≤ 3
 parts-most c =

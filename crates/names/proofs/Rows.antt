@@ -1,5 +1,5 @@
 -- The tables of strings: four bytes to a row, of which the first is the length of the string as a digit. In order: a string by value is as long as
--- it says (`string-size`, `spells-size`); a row inside a table and behind its last (`part-inside`, `part-behind`); one test over all rows of a table,
+-- it says (`string-size`, `spells-size`); a row inside a table (`part-inside`), as the code reads it (`part-read`), and behind its last (`part-behind`); one test over all rows of a table,
 -- which antt computes, and what it says of the table (`rows-right`); a part that is a row's spells the row's string (`spelled`).
 -- Not here: the tables, which stand in the code, and the strings (specs/Names). Assumes nothing.
 use mathlib.Core.Path.{_≡_, refl, sym, _∙_, ap}
@@ -66,7 +66,6 @@ module _ (rows : List ℕ) (strings : List (List ℕ)) (size : 4 * length string
 
   pub rows-right : T (every (rightRow rows) 0 strings) → Rows rows strings
   rows-right t = record {
-    size = size;
     spells = λ row.
         test (ltb row (length strings)) (λ h. row-spells t row (ltb-true row (length strings) h))
         (λ h. row-behind row (ltb-false row (length strings) h));

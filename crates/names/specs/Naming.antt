@@ -83,9 +83,9 @@ partAt rows row = partOf (cond (ltb row (length rows / 4)) (drop (4 * row) rows)
 
 -- a table's rows are the strings, in order
 pub record Rows (rows : List ℕ) (strings : List (List ℕ)) : Type 0 where
-  pub size : 4 * length strings ≡ length rows
   pub spells : (row : ℕ) → Spells (partAt rows row) (getD strings row [])
 
+-- those of each list
 abbrev pub InitialRows : List ℕ → Type 0
 InitialRows rows = Rows rows initials
 

@@ -1,4 +1,6 @@
-use Rattle.letters.proofs.Parts.{parts-none, parts-one, parts-two}
+-- `letters::apart::take_apart`, which calls itself, meets its contract: at the depth 0 the code point itself, else its one part, or the parts of its two
+-- parts one behind the other. Assumes nothing.
+use Rattle.letters.proofs.Parts.{parts-some, parts-none, parts-one, parts-two}
 use Rattle.laws.proofs.Filling.{wrote-one, wrote-two, room-one, room-first, room-second}
 use native.Mathlib.Omega.{arith}
 use mathlib.Core.Path.{_∙_}
@@ -38,7 +40,7 @@ take-apart-slice-write-out : (t : ℕ) → take-apart-lts.Need-slice-write-out (
   take-apart-below t,
   take-apart.Post,
 ) (take-apart-at t) take-apart.Post
-take-apart-slice-write-out t c = room-one (c .before .before .pre .1) (parts-none _ _ (c .if1 .taken))
+take-apart-slice-write-out t c = omega (arith, c .before .before .pre .1 .fits, parts-some (c .before .before .args .depth) (c .before .before .args .code))
 
 take-apart-add-result : (t : ℕ) → take-apart-lts.Need-add-result (
   parts-of-reads.Asked,

@@ -1,9 +1,9 @@
+-- `mending::character::grow` meets its contract: what begins behind the character does not join with it, or is taken in.
+-- Assumes nothing.
 use Rattle.utf8.specs.Table37.{kindOf}
 use Rattle.laws.specs.Pieces.{pieces}
 use lib.ListN.{drop}
 use Prim.Native.Nat.{_+_}
--- `mending::character::grow` meets its contract: what begins behind the character does not join with it, or is taken in.
--- Assumes nothing.
 use Rattle.mending.proofs.Characters.{once-none, once-some, next-inside}
 use native.Mathlib.Omega.{arith}
 use mathlib.Core.Path.{sym, _∙_}
