@@ -2,6 +2,7 @@
 // It runs no program; a broken fact means that this program is wrong, not the one under test.
 
 use crate::cases::FULL_PARTS;
+use crate::filler_facts;
 use crate::joining_facts;
 use crate::kinds::{kind_of, Kind, TABLE};
 use crate::letter_facts;
@@ -11,6 +12,7 @@ use crate::naming_facts;
 use crate::published;
 use crate::random::Random;
 use crate::reading_cases::READING;
+use crate::simple_facts;
 use crate::utf8::{answer_of_bytes, Made};
 use crate::utf8_facts;
 use crate::wire::{get_answer, get_call, put_answer, put_call, Call, Cursor, Shape, Width};
@@ -36,6 +38,8 @@ pub fn all() -> Facts {
     let mut facts = Facts::default();
     letter_facts::state_all(&mut facts);
     joining_facts::state_all(&mut facts);
+    simple_facts::state_all(&mut facts);
+    filler_facts::state_all(&mut facts);
     utf8_facts::state_all(&mut facts);
     mending_facts::state_all(&mut facts);
     naming_facts::state_all(&mut facts);

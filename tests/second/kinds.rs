@@ -2,6 +2,7 @@
 // It defines no answers itself; a new kind is a module of its own and one line in TABLE.
 
 use crate::cases;
+use crate::filler_cases;
 use crate::joining_cases;
 use crate::letters::Refusal;
 use crate::mending_cases;
@@ -9,6 +10,7 @@ use crate::name_reading_cases;
 use crate::naming_cases;
 use crate::random::Random;
 use crate::reading_cases;
+use crate::simple_cases;
 use crate::texts;
 use crate::wire::{Answer, Call, Shape, Width};
 use crate::writing_cases;
@@ -44,6 +46,8 @@ pub const TABLE: &[&Kind] = &[
     &cases::ONE_STEP,
     &cases::FULL_PARTS,
     &joining_cases::JOINING,
+    &simple_cases::SIMPLE_FORM,
+    &filler_cases::FILLER_GROUPS,
     &naming_cases::NAMING,
     &name_reading_cases::NAME_READING,
     &reading_cases::READING,

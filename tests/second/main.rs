@@ -1,16 +1,22 @@
 // The second program: checks a proved Hangul library from outside, by definitions of its own.
 // It shares no code with the library and reads only what the program `calls` writes.
 
+mod appendix;
 mod byte_kinds;
 mod byte_texts;
 mod cases;
 mod compare;
 mod facts;
+mod filler_cases;
+mod filler_facts;
+mod filler_texts;
+mod fillers;
 mod joining;
 mod joining_cases;
 mod joining_facts;
 mod kinds;
 mod letter_facts;
+mod letter_names;
 mod letters;
 mod listing;
 mod mending;
@@ -27,6 +33,10 @@ mod published_names;
 mod random;
 mod reading_cases;
 mod run;
+mod simple;
+mod simple_cases;
+mod simple_facts;
+mod simple_texts;
 mod stops;
 mod store;
 mod text_kinds;
@@ -153,7 +163,9 @@ fn derived_names(path: &str, file: &str, words: &[String]) -> Result<ExitCode, S
 fn lister(path: &str, words: &[String]) -> Result<ExitCode, String> {
     let program = options(words, &["--under"])?.program(path);
     let outcome = listing::check(&program);
-    Ok(verdict(outcome.map(|count| format!("{count} texts are listed as they must be"))))
+    Ok(verdict(outcome.map(|count| {
+        format!("{count} texts are listed as they must be")
+    })))
 }
 
 fn show(calls: &str, answers: &str) -> Result<ExitCode, String> {

@@ -3,7 +3,6 @@
 
 use crate::letters::{check_length, check_room, is_syllable, Refusal, N_COUNT, S_BASE, T_COUNT};
 use std::collections::HashMap;
-use std::sync::OnceLock;
 
 pub const PREFIX: &str = "HANGUL SYLLABLE ";
 
@@ -46,12 +45,11 @@ pub fn name_of(syllable: u32) -> Vec<u8> {
 /// The syllable that has the name, looked up among the names of all: no two are the same, which is
 /// one of the facts. That a search through the three lists finds it too is another.
 pub fn named(name: &[u8]) -> Option<u32> {
-    static NAMES: OnceLock<HashMap<Vec<u8>, u32>> = OnceLock::new();
-    let names = NAMES.get_or_init(|| {
-        let syllables = 0xAC00..=0xD7A3;
-        syllables.map(|code| (name_of(code), code)).collect()
-    });
-    names.get(name).copied()
+    thread_local! {
+        static NAMES: HashMap<Vec<u8>, u32> =
+            (0xAC00..=0xD7A3).map(|code| (name_of(code), code)).collect();
+    }
+    NAMES.with(|names| names.get(name).copied())
 }
 
 /// Refusal 4: what is to be named is no syllable; the place is 0. It is given for every other

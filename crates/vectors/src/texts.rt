@@ -1,4 +1,4 @@
-// The words that make a text of code points of a text of code points: join, parts. Each field of the line is a text, and is answered in a
+// The words that make a text of code points of a text of code points: join, parts, simple, groups. Each field of the line is a text, and is answered in a
 // field. Not here: the other words (single).
 use crate::operand;
 use crate::put;
@@ -7,12 +7,16 @@ use answers::Filled;
 pub enum Text {
     Join,
     Parts,
+    Simple,
+    Groups,
 }
 
 fn make(call: Text, text: &[u32], made: &mut [u32]) -> Filled {
     match call {
         Text::Join => joining::text::join(text, made),
         Text::Parts => letters::apart::full_parts(text, made),
+        Text::Simple => clusters::simple::simple_form(text, made),
+        Text::Groups => fillers::groups::turn(text, made),
     }
 }
 

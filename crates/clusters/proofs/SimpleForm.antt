@@ -1,0 +1,177 @@
+-- Laws of simple form. In order: of one code point down to a depth, which is what a function that calls itself asks; how long it is of one code point; of a
+-- text, code point by code point, its length, and what a loop over a text asks; nothing changes any more in a simple form, and it is the same of a text, of
+-- its parts and of the text joined, and so are the simple letters and the other characters (`SameCharacters`).
+-- Not here: the letters of a code (proofs/Rule), full parts (crate letters). Assumes nothing.
+use mathlib.Core.Path.{_≡_, refl, sym, _∙_, ap}
+use mathlib.Core.Bool.{true, false}
+use mathlib.Core.List.{List, [], _∷_, _++_}
+use Prim.Native.Nat.{ℕ, _+_, _-_, _*_, _≤_, _<_}
+use native.Mathlib.Omega.{arith}
+use lib.ListN.{length, getD, drop, length-append}
+use Rattle.laws.specs.Lists.{each, All}
+use Rattle.laws.specs.Writing.{Room, Wrote}
+use Rattle.laws.proofs.Bools.{test}
+use Rattle.laws.proofs.Lists.{each-end, each-one, each-append, each-each, each-alone, all-map, all-each, all-each-of, length-each-least, length-each-most}
+use Rattle.laws.proofs.Ranges.{within-above}
+use Rattle.laws.proofs.Filling.{Piece, each-piece}
+use Rattle.answers.specs.Checks.{bad}
+use Rattle.letters.specs.Syllables.{isSyllable, initialOf, peakOf, finalOf, oneStep, partsTo, partsOf, fullParts}
+use Rattle.letters.specs.Answers.{listed}
+use Rattle.letters.specs.declared.step.Parts.{Parts}
+use Rattle.letters.specs.declared.step.Parts.the-variants.{One, Two}
+use Rattle.letters.proofs.Sorts.{sort-between}
+use Rattle.letters.proofs.Steps.{syllable-below, syllable-least, syllable-most, step-other, by-step}
+use Rattle.letters.proofs.Parts.{parts-some, parts-none, parts-one, parts-two, parts-other, parts-lv, parts-lvt, Closed, full-append, full-closed, full-full, full-of-step, full-good, full-least}
+use Rattle.joining.specs.Joining.{join}
+use Rattle.joining.proofs.Joins.{parts-join}
+use Rattle.clusters.specs.Table.{lettersOf}
+use Rattle.clusters.specs.Simple.{simple, simpleTo, simpleLetters, otherCharacters}
+use Rattle.clusters.proofs.Rule.{table-rule, letters-least, letters-most, initial-most, final-most, letters-outside, letters-all, letters-good}
+
+-- ---- of one code point, down to a depth
+
+pub simple-none : (d c : ℕ) → d ≡ 0 → simpleTo d c ≡ lettersOf c
+unfolding simpleTo
+simple-none d c e = rw (parts-none d c e) (each-one lettersOf c)
+
+pub simple-other : (d c : ℕ) → isSyllable c ≡ false → simpleTo d c ≡ lettersOf c
+unfolding simpleTo
+simple-other d c h = rw (parts-other d c h) (each-one lettersOf c)
+
+-- one part, and two: p is what the code's one step answered
+pub simple-one : (d c : ℕ) {p : Parts} {a : ℕ} → listed p ≡ oneStep c → p ≡ One a → simpleTo d c ≡ lettersOf a
+unfolding simpleTo
+simple-one d c {a = a} q r = rw (parts-one d c q r) (each-one lettersOf a)
+
+pub simple-two : (d c : ℕ) {p : Parts} {a b : ℕ} → (d ≡ 0 → ⊥) → listed p ≡ oneStep c → p ≡ Two a b
+    → Piece (simpleTo d c) (simpleTo (d - 1) a) (simpleTo (d - 1) b)
+unfolding simpleTo
+simple-two d c {a = a} {b = b} n q r =
+    record { eq = ap (each lettersOf) (parts-two d c n q r .eq) ∙ each-append lettersOf (partsTo (d - 1) a) (partsTo (d - 1) b) }
+
+-- ---- how long it is of one code point
+
+-- at least as long as the code point's own letters, at any depth: a syllable has itself alone
+simple-some : (d c : ℕ) → 1 ≤ length (simpleTo d c)
+unfolding simpleTo
+simple-some d c = omega (arith, parts-some d c, length-each-least lettersOf letters-least (partsTo d c))
+
+pub simple-fits : (d c : ℕ) → length (lettersOf c) ≤ length (simpleTo d c)
+simple-fits d c =
+    test (isSyllable c)
+    (λ h. let l = syllable-least c h in rw (letters-outside c (within-above 0x1100 0x11FF c (omega arith))) (simple-some d c))
+    (λ h. omega (arith, ap length (simple-other d c h)))
+
+-- and as the letters of its one part
+pub simple-one-fits : (d c : ℕ) {p : Parts} {a : ℕ} → listed p ≡ oneStep c → p ≡ One a → length (lettersOf a) ≤ length (simpleTo d c)
+simple-one-fits d c q r = omega (arith, ap length (simple-one d c q r))
+
+-- of a syllable at most 2, 3 and 2 letters, of any other at most 3
+pub simple-of-most : (c : ℕ) → length (simpleTo 2 c) ≤ 7
+unfolding simpleTo each
+simple-of-most c = by-step c lv lvt (λ h. rw (simple-other 2 c h) (omega (arith, letters-most c)))
+  where
+    first : isSyllable c ≡ true → length (lettersOf (0x1100 + initialOf c)) ≤ 2
+    first h =
+        let m = syllable-most c h in
+        initial-most (0x1100 + initialOf c) (sym (sort-between 0x1100 0x1112 tt (omega arith) (omega arith)))
+
+    last : isSyllable c ≡ true → (finalOf c ≡ 0 → ⊥) → length (lettersOf (0x11A7 + finalOf c)) ≤ 2
+    last h e = final-most (0x11A7 + finalOf c) (sym (sort-between 0x11A8 0x11C2 tt (omega arith) (omega arith)))
+
+    lv : isSyllable c ≡ true → finalOf c ≡ 0 → length (each lettersOf (partsTo 2 c)) ≤ 7
+    lv h e = rw (parts-lv 0 c h e) (simp length-append (omega (arith, first h, letters-most (0x1161 + peakOf c))))
+
+    lvt : isSyllable c ≡ true → (finalOf c ≡ 0 → ⊥) → length (each lettersOf (partsTo 2 c)) ≤ 7
+    lvt h e = rw (parts-lvt 0 c h e) (simp length-append (omega (arith, first h, letters-most (0x1161 + peakOf c), last h e)))
+
+-- so seven places have room for it
+pub simple-room : (out : List ℕ) (c : ℕ) → length out ≡ 7 → Room out 0 (simpleTo 2 c)
+simple-room out c e = record { fits = omega (arith, simple-of-most c) }
+
+-- what is written from the start on is as long as the index behind it
+pub written-length : {out xs out′ : List ℕ} {r : ℕ} → Wrote out 0 xs r out′ → r ≡ length xs
+written-length w = omega (arith, w .behind)
+
+-- ---- a text's
+
+-- code point by code point
+pub simple-each : (x : List ℕ) → simple x ≡ each (simpleTo 2) x
+unfolding simple simpleTo
+simple-each x = each-each lettersOf partsOf x
+
+pub simple-append : (x y : List ℕ) → simple (x ++ y) ≡ simple x ++ simple y
+unfolding simple
+simple-append x y = ap (each lettersOf) (full-append x y) ∙ each-append lettersOf (fullParts x) (fullParts y)
+
+-- at most 7n, at least n
+pub simple-most : (x : List ℕ) → length (simple x) ≤ 7 * length x
+simple-most x = rw (simple-each x) (length-each-most (simpleTo 2) 7 simple-of-most x)
+
+pub simple-least : (x : List ℕ) → length x ≤ length (simple x)
+unfolding simple
+simple-least x = omega (arith, full-least x, length-each-least lettersOf letters-least (fullParts x))
+
+-- what the loops over a text ask
+pub simple-piece : (text : List ℕ) (i : ℕ) → i < length text
+    → Piece (each (simpleTo 2) (drop i text)) (simpleTo 2 (getD text i 0)) (each (simpleTo 2) (drop (i + 1) text))
+simple-piece text i h = each-piece (simpleTo 2) 0 text i h
+
+pub simple-end : (text : List ℕ) (i : ℕ) → length text ≤ i → each (simpleTo 2) (drop i text) ≡ []
+simple-end text i h = each-end (simpleTo 2) text i h
+
+-- ---- nothing changes any more
+
+-- EACH CODE OF A SIMPLE FORM IS ALONE
+pub letters-of-simple : (x : List ℕ) → All (λ l. lettersOf l ≡ l ∷ []) (simple x)
+unfolding simple
+letters-of-simple x = all-each lettersOf (table-rule .alone) (fullParts x)
+
+-- and is no syllable: its one step is itself
+pub simple-closed : (x : List ℕ) → All Closed (simple x)
+unfolding simple
+simple-closed x = all-each-of lettersOf (letters-all Closed (λ l h k. step-other l (syllable-below l (omega arith)))) (full-closed x)
+
+closed-parts : {x : List ℕ} → All Closed x → fullParts x ≡ x
+closed-parts p = each-alone partsOf (all-map (λ c h. parts-one 2 c {p = One c} (sym h) refl) p)
+
+pub simple-simple : (x : List ℕ) → simple (simple x) ≡ simple x
+unfolding simple
+simple-simple x = ap (each lettersOf) (closed-parts (simple-closed x)) ∙ each-alone lettersOf (letters-of-simple x)
+
+-- the simple form of one step, of the full parts, and of the joined text is that of the text
+pub simple-of-step : (x : List ℕ) → simple (each oneStep x) ≡ simple x
+unfolding simple
+simple-of-step x = ap (each lettersOf) (full-of-step x)
+
+pub simple-of-parts : (x : List ℕ) → simple (fullParts x) ≡ simple x
+unfolding simple
+simple-of-parts x = ap (each lettersOf) (full-full x)
+
+pub simple-of-joined : (x : List ℕ) → simple (join x) ≡ simple x
+unfolding simple
+simple-of-joined x = ap (each lettersOf) (parts-join x)
+
+-- so the simple letters and the other characters, and their numbers, are the same before and after each
+pub record SameCharacters (x y : List ℕ) : Type 0 where
+  pub letters : simpleLetters x ≡ simpleLetters y
+  pub others : otherCharacters x ≡ otherCharacters y
+  pub letters-counted : length (simpleLetters x) ≡ length (simpleLetters y)
+  pub others-counted : length (otherCharacters x) ≡ length (otherCharacters y)
+
+same-characters : (x y : List ℕ) → simple x ≡ simple y → SameCharacters x y
+same-characters x y e = record { letters = rw e; others = rw e; letters-counted = rw e; others-counted = rw e }
+
+pub characters-of-step : (x : List ℕ) → SameCharacters (each oneStep x) x
+characters-of-step x = same-characters (each oneStep x) x (simple-of-step x)
+
+pub characters-of-parts : (x : List ℕ) → SameCharacters (fullParts x) x
+characters-of-parts x = same-characters (fullParts x) x (simple-of-parts x)
+
+pub characters-of-joined : (x : List ℕ) → SameCharacters (join x) x
+characters-of-joined x = same-characters (join x) x (simple-of-joined x)
+
+-- the simple form of a text with no bad code point has none
+pub simple-good : {x : List ℕ} → All (λ c. bad c ≡ false) x → All (λ c. bad c ≡ false) (simple x)
+unfolding simple
+simple-good p = all-each-of lettersOf letters-good (full-good p)

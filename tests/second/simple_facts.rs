@@ -1,0 +1,303 @@
+// Facts about the simple form: the table of clusters, known cases, and what the rules promise.
+// It runs no program and makes no cases; it holds only the definition of the form to account.
+
+use crate::appendix;
+use crate::facts::{refusal, Facts, TextCase};
+use crate::joining::joined;
+use crate::letter_facts::state_for_all_syllables;
+use crate::letter_names::{rows, spelled, FINALS, INITIALS, PEAKS};
+use crate::letters::*;
+use crate::random::Random;
+use crate::simple::*;
+use crate::simple_cases::SIMPLE;
+use crate::simple_texts::simple_text;
+use std::collections::{HashMap, HashSet};
+
+pub fn state_all(facts: &mut Facts) {
+    names(facts);
+    counts(facts);
+    rule_of_the_table(facts);
+    table_as_printed(facts);
+    known_rows(facts);
+    known_forms(facts);
+    forms_over_all_syllables(facts);
+    forms_of_other_code_points(facts);
+    forms_of_seeded_texts(facts);
+    texts_refused_for_simple_form(facts);
+    answers(facts);
+}
+
+fn names(facts: &mut Facts) {
+    for (place, names, expected) in [
+        ("initials", INITIALS, 90),
+        ("peaks", PEAKS, 21),
+        ("finals", FINALS, 27),
+    ] {
+        let distinct: HashSet<&str> = names.split(' ').collect();
+        let count = names.split(' ').count();
+        facts.state(&format!("{expected} {place} have names"), count == expected);
+        facts.state(
+            &format!("no two {place} share one"),
+            distinct.len() == count,
+        );
+    }
+    let known = [
+        ("PIEUP-SIOS-KIYEOK", "PIEUP SIOS KIYEOK"),
+        ("SIOS-SSANGSIOS", "SIOS SIOS SIOS"),
+        ("KAPYEOUNSSANGPIEUP", "PIEUP PIEUP IEUNG"),
+        ("CHITUEUMSSANGSIOS", "CHITUEUMSIOS CHITUEUMSIOS"),
+        ("CEONGCHIEUMCHIEUCH", "CEONGCHIEUMCHIEUCH"),
+        ("PANSIOS", "PANSIOS"),
+        ("WAE", "O A I"),
+        ("YO", "YO"),
+    ];
+    for (name, letters) in known {
+        let fact = format!("{name} spells {letters}");
+        facts.state(&fact, spelled(name).join(" ") == letters);
+    }
+}
+
+/// Of each sort that has clusters: how many, and how many simple letters (002, table 1).
+fn counts(facts: &mut Facts) {
+    let expected = [
+        (Sort::ModernInitial, 5, 14),
+        (Sort::OldInitial, 62, 9),
+        (Sort::ModernPeak, 11, 10),
+        (Sort::OldPeak, 0, 45),
+        (Sort::ModernFinal, 13, 14),
+        (Sort::OldFinal, 0, 55),
+    ];
+    for (sort, complex, simple) in expected {
+        let codes = (TABLE_FIRST..=TABLE_LAST).filter(|&code| sort_of(code) == sort);
+        let (taken, whole): (Vec<u32>, Vec<u32>) = codes.partition(|&code| is_cluster(code));
+        let fact = format!("{sort:?}: {complex} clusters, {simple} others");
+        facts.state(&fact, (taken.len(), whole.len()) == (complex, simple));
+    }
+    facts.state("there are 91 clusters", clusters().len() == 91);
+    facts.state("the table has 768 numbers", rows().concat().len() == 768);
+    let of_three = clusters()
+        .into_iter()
+        .filter(|&code| simple_letters(code).len() == 3);
+    facts.state("ten clusters have three letters", of_three.count() == 10);
+}
+
+/// Initial, peak or final; None for all that is no letter.
+fn place_of(code: u32) -> Option<&'static str> {
+    match sort_of(code) {
+        Sort::ModernInitial | Sort::OldInitial => Some("initial"),
+        Sort::ModernPeak | Sort::OldPeak => Some("peak"),
+        Sort::ModernFinal | Sort::OldFinal => Some("final"),
+        _ => None,
+    }
+}
+
+/// The rule of the table, and that a row is its code's letters or the code itself, zeros behind.
+fn rule_of_the_table(facts: &mut Facts) {
+    let one_place = clusters().into_iter().all(|code| {
+        let mut letters = simple_letters(code).into_iter();
+        place_of(code).is_some() && letters.all(|letter| place_of(letter) == place_of(code))
+    });
+    facts.state("a cluster's letters are of its place", one_place);
+    let alone = (TABLE_FIRST..=TABLE_LAST)
+        .flat_map(simple_letters)
+        .all(|letter| simple_letters(letter) == [letter]);
+    facts.state("each letter's own row is that letter alone", alone);
+    let distinct: HashSet<[u32; 3]> = rows().into_iter().collect();
+    facts.state("no two rows are equal", distinct.len() == 256);
+    let whole = (TABLE_FIRST..)
+        .zip(rows())
+        .filter(|&(code, row)| row == [code, 0, 0]);
+    facts.state("165 rows are their code alone", whole.count() == 256 - 91);
+    let zeros_behind = rows()
+        .iter()
+        .all(|row| row[0] != 0 && (row[1] != 0 || row[2] == 0));
+    facts.state("zeros stand behind letters", zeros_behind);
+}
+
+/// The other way to the table: the appendix, with the rules' corrections, and no names.
+fn table_as_printed(facts: &mut Facts) {
+    let printed = appendix::numbers(appendix::PRINTED);
+    facts.state("92 rows are printed", printed.len() == 92);
+    let mut letters: HashMap<u32, Vec<u32>> = HashMap::new();
+    for row in &printed {
+        let first = letters.insert(row[0], row[1..].to_vec());
+        facts.state("no row is printed twice", first.is_none());
+    }
+    for row in appendix::numbers(appendix::CORRECTIONS) {
+        let printed = letters.insert(row[0], row[1..].to_vec());
+        let wrong = printed.iter().any(|printed| *printed != row[1..]);
+        facts.state(&format!("{:04X} is printed wrong", row[0]), wrong);
+    }
+    let same = (TABLE_FIRST..=TABLE_LAST).all(|code| {
+        let printed = letters.get(&code).cloned();
+        printed.unwrap_or_else(|| vec![code]) == simple_letters(code)
+    });
+    facts.state("corrected, the printed table is that of the names", same);
+}
+
+fn known_rows(facts: &mut Facts) {
+    let known: [(u32, &[u32]); 16] = [
+        (0x1140, &[0x1140]),
+        (0x1153, &[0x110E, 0x1112]),
+        (0x116A, &[0x1169, 0x1161]),
+        (0x116B, &[0x1169, 0x1161, 0x1175]),
+        (0x11B6, &[0x11AF, 0x11C2]),
+        (0x11B7, &[0x11B7]),
+        (0x1146, &[0x110B, 0x1140]),
+        (0x1122, &[0x1107, 0x1109, 0x1100]),
+        (0x1101, &[0x1100, 0x1100]),
+        (0x112B, &[0x1107, 0x110B]),
+        (0x112C, &[0x1107, 0x1107, 0x110B]),
+        (0x113D, &[0x113C, 0x113C]),
+        (0x1147, &[0x110B, 0x110B]),
+        (0x1170, &[0x116E, 0x1165, 0x1175]),
+        (0x11AA, &[0x11A8, 0x11BA]),
+        (0x11BB, &[0x11BA, 0x11BA]),
+    ];
+    for (code, letters) in known {
+        let fact = format!("{code:04X} is {letters:04X?}");
+        facts.state(&fact, simple_letters(code) == letters);
+    }
+    let whole = (0x1176..=0x11A7).chain(0x11C3..=0x11FF);
+    let mut whole = whole.chain(0x115A..=0x1160);
+    facts.state(
+        "old peaks and finals stay",
+        whole.all(|code| !is_cluster(code)),
+    );
+}
+
+/// Marked case 1, 002's own examples, and words that any reader knows.
+fn known_forms(facts: &mut Facts) {
+    let known: [(&[u32], &[u32]); 12] = [
+        (&[0xAC03], &[0x1100, 0x1161, 0x11A8, 0x11BA]),
+        (&[0x1169, 0x1162], &[0x1169, 0x1161, 0x1175]),
+        (&[0x116A, 0x1175], &[0x1169, 0x1161, 0x1175]),
+        (&[0xAC1C], &[0x1100, 0x1161, 0x1175]),
+        (&[0x1122, 0x1161], &[0x1107, 0x1109, 0x1100, 0x1161]),
+        (&[0x1107, 0xAC01], &[0x1107, 0x1100, 0x1161, 0x11A8]),
+        (&[0xB2ED], &[0x1103, 0x1161, 0x11AF, 0x11A8]),
+        (&[0xAC0C], &[0x1100, 0x1161, 0x11AF, 0x11BA]),
+        (&[0xAE4C], &[0x1100, 0x1100, 0x1161]),
+        (&[0xAC00, 0x11A7, 0x0000], &[0x1100, 0x1161, 0x11A7, 0]),
+        (&[0x3164, 0x115F, 0x3133], &[0x3164, 0x115F, 0x3133]),
+        (&[], &[]),
+    ];
+    for (text, form) in known {
+        let fact = format!("{text:04X?} has the simple form {form:04X?}");
+        facts.state(&fact, simple_form(text) == form);
+    }
+    let seven = [0x1100, 0x1100, 0x1169, 0x1161, 0x1175, 0x11A8, 0x11A8];
+    facts.state("AF66 has seven letters", simple_form(&[0xAF66]) == seven);
+}
+
+fn forms_over_all_syllables(facts: &mut Facts) {
+    state_for_all_syllables(facts, "a syllable's form is that of its parts", |code| {
+        let parts = full_parts(code).into_iter();
+        simple_form(&[code]) == parts.flat_map(simple_letters).collect::<Vec<u32>>()
+    });
+    state_for_all_syllables(facts, "a syllable has at most seven letters", |code| {
+        (2..=7).contains(&simple_form(&[code]).len())
+    });
+    state_for_all_syllables(facts, "initials, peaks, finals in this order", |code| {
+        let places = simple_form(&[code]).into_iter().map(place_of);
+        let mut places: Vec<Option<&str>> = places.collect();
+        places.dedup();
+        let order = [Some("initial"), Some("peak"), Some("final")];
+        places == order[..full_parts(code).len()]
+    });
+    let syllables = 0xAC00..=0xD7A3;
+    let forms: Vec<Vec<u32>> = syllables.map(|code| simple_form(&[code])).collect();
+    let distinct: HashSet<&Vec<u32>> = forms.iter().collect();
+    facts.state("no two syllables share a form", distinct.len() == 11_172);
+    for (length, expected) in (2..).zip([140, 2_136, 4_357, 3_320, 1_089, 130]) {
+        let count = forms.iter().filter(|form| form.len() == length).count();
+        let fact = format!("{expected} syllables have {length} letters");
+        facts.state(&fact, count == expected);
+    }
+    facts.state("all have 48160 letters", forms.concat().len() == 48_160);
+}
+
+fn forms_of_other_code_points(facts: &mut Facts) {
+    let mut others = (0..0x1100).chain(0x1200..0xAC00).chain(0xD7A4..=0x10_FFFF);
+    facts.state(
+        "what is no letter and no syllable is itself",
+        others.all(|code| simple_form(&[code]) == [code]),
+    );
+}
+
+/// The codes of a simple form that are letters, and the rest of it.
+fn letters_and_others(text: &[u32]) -> (Vec<u32>, Vec<u32>) {
+    let form = simple_form(text).into_iter();
+    form.partition(|&code| place_of(code).is_some())
+}
+
+fn forms_of_seeded_texts(facts: &mut Facts) {
+    let mut random = Random::new(15);
+    let lengths = (0..3_000).map(|index| index % 60);
+    let texts: Vec<Vec<u32>> = lengths
+        .map(|length| simple_text(&mut random, length))
+        .collect();
+    let mut state = |fact: &str, holds: &dyn Fn(&[u32]) -> bool| {
+        facts.state(fact, texts.iter().all(|text| holds(text)));
+    };
+    state("a simple form is its own", &|text| {
+        simple_form(&simple_form(text)) == simple_form(text)
+    });
+    state("a simple form has at most 7n, at least n", &|text| {
+        (text.len()..=7 * text.len()).contains(&simple_form(text).len())
+    });
+    state("the parts have the same simple form", &|text| {
+        simple_form(&full_parts_of_text(text)) == simple_form(text)
+    });
+    state("the joined text has the same simple form", &|text| {
+        simple_form(&joined(text)) == simple_form(text)
+    });
+    state("no cluster and no syllable is left", &|text| {
+        let mut form = simple_form(text).into_iter();
+        form.all(|code| !is_cluster(code) && !is_syllable(code))
+    });
+    state("other characters stay, in their order", &|text| {
+        let others = text.iter().copied();
+        let others = others.filter(|&code| place_of(code).is_none() && !is_syllable(code));
+        letters_and_others(text).1 == others.collect::<Vec<u32>>()
+    });
+    let longer = texts
+        .iter()
+        .filter(|text| simple_form(text).len() > text.len());
+    facts.state("seeded texts do come apart", longer.count() > 2_500);
+}
+
+fn texts_refused_for_simple_form(facts: &mut Facts) {
+    let full = vec![0xAF66; LIMIT];
+    let over = vec![0xAF66; LIMIT + 1];
+    let mut both = over.clone();
+    both[0] = 0xD800;
+    let cases: [TextCase; 9] = [
+        ("16384 of seven are taken", &full, 114_688, (0, 0)),
+        ("they need their room", &full, 114_687, (3, 114_688)),
+        ("16385 have no simple form", &over, 120_000, (1, 16_384)),
+        ("1 before 3 in simple form", &over, 0, (1, 16_384)),
+        ("1 before 2 in simple form", &both, 0, (1, 16_384)),
+        ("2 before 3 in simple form", &[0x1122, 0xDFFF], 0, (2, 1)),
+        ("the place is the simple length", &[0xAC03], 3, (3, 4)),
+        ("a room for the letters is enough", &[0xAC03], 4, (0, 0)),
+        ("no text has a form in no room", &[], 0, (0, 0)),
+    ];
+    for (fact, text, room, expected) in cases {
+        facts.state(fact, refusal(simple_form, text, room) == expected);
+    }
+}
+
+/// The letters in front and the rest of the buffer as it was; a refusal leaves all.
+fn answers(facts: &mut Facts) {
+    let answer = SIMPLE.answer(&SIMPLE.call(&[0xAC03], 5));
+    let lent = [0x1100, 0x1161, 0x11A8, 0x11BA, 0xA5A5_A5A5];
+    facts.state("simple letters fill the front", answer.lent == lent);
+    let numbers = (answer.refusal, answer.value, answer.second, answer.third);
+    facts.state("value is their number", numbers == (0, 4, 0, 0));
+    let answer = SIMPLE.answer(&SIMPLE.call(&[0xAC03], 3));
+    facts.state(
+        "no form is written in part",
+        answer.lent == [0xA5A5_A5A5; 3],
+    );
+}
