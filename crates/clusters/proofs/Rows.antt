@@ -1,6 +1,6 @@
 -- The table of 768 numbers, and its rows by value. In order: one test over all 256 rows, which antt computes, and what it says of a table (`rows-right`);
 -- a row as the code reads it, inside the table and where a code is alone (`row-read`, `row-short`, `row-below`, `row-above`); the letters of a row by value
--- (`by-one`, `by-two`, `by-three`, `by-room`), and that they are the letters of every number (`letters-by`).
+-- (`by-one`, `by-two`, `by-three`), and that they are the letters of every number (`letters-by`).
 -- Not here: the table, which stands in the code, and its rule (proofs/Rule). Assumes nothing.
 use mathlib.Core.Path.{_≡_, refl, sym, _∙_, ap}
 use mathlib.Core.Bool.{Bool, true, false, _&&_}
@@ -51,20 +51,20 @@ in-row : (l : List ℕ) (n i : ℕ) → i < 3 → getD (take 3 (drop n l)) i 0 �
 in-row l n i h = getD-take 3 (drop n l) i 0 h ∙ getD-drop n l i 0
 
 module _ (table : List ℕ) (c : ℕ) where
-  row-alone : within 0x1100 0x11FF c && leb 768 (length table) ≡ false → record { first = c; second = 0; third = 0 } ≡ rowAt table c
+  row-alone : within 0x1100 0x11FF c && leb 768 (length table) ≡ false → rowIn (c ∷ []) ≡ rowAt table c
   unfolding rowAt
   row-alone e = simp e
 
-  pub row-short : length table < 768 → record { first = c; second = 0; third = 0 } ≡ rowAt table c
+  pub row-short : length table < 768 → rowIn (c ∷ []) ≡ rowAt table c
   row-short h = row-alone (and-not-right (within 0x1100 0x11FF c) (leb 768 (length table)) (lt-leb 768 (length table) h))
 
-  row-outside : within 0x1100 0x11FF c ≡ false → record { first = c; second = 0; third = 0 } ≡ rowAt table c
+  row-outside : within 0x1100 0x11FF c ≡ false → rowIn (c ∷ []) ≡ rowAt table c
   row-outside e = row-alone (simp e)
 
-  pub row-below : c < 0x1100 → record { first = c; second = 0; third = 0 } ≡ rowAt table c
+  pub row-below : c < 0x1100 → rowIn (c ∷ []) ≡ rowAt table c
   row-below h = row-outside (within-below 0x1100 0x11FF c h)
 
-  pub row-above : 0x11FF < c → record { first = c; second = 0; third = 0 } ≡ rowAt table c
+  pub row-above : 0x11FF < c → rowIn (c ∷ []) ≡ rowAt table c
   row-above h = row-outside (within-above 0x1100 0x11FF c h)
 
   row-inside : 768 ≤ length table → 0x1100 ≤ c → c ≤ 0x11FF → rowAt table c ≡ rowIn (take 3 (drop (3 * (c - 0x1100)) table))
