@@ -3,6 +3,7 @@
 
 use crate::cases::FULL_PARTS;
 use crate::filler_facts;
+use crate::gathering_facts;
 use crate::joining_facts;
 use crate::kinds::{kind_of, Kind, TABLE};
 use crate::letter_facts;
@@ -39,6 +40,7 @@ pub fn all() -> Facts {
     letter_facts::state_all(&mut facts);
     joining_facts::state_all(&mut facts);
     simple_facts::state_all(&mut facts);
+    gathering_facts::state_all(&mut facts);
     filler_facts::state_all(&mut facts);
     utf8_facts::state_all(&mut facts);
     mending_facts::state_all(&mut facts);

@@ -3,6 +3,7 @@
 
 use crate::cases;
 use crate::filler_cases;
+use crate::gathering_cases;
 use crate::joining_cases;
 use crate::letters::Refusal;
 use crate::mending_cases;
@@ -47,6 +48,7 @@ pub const TABLE: &[&Kind] = &[
     &cases::FULL_PARTS,
     &joining_cases::JOINING,
     &simple_cases::SIMPLE_FORM,
+    &gathering_cases::GATHERED_FORM,
     &filler_cases::FILLER_GROUPS,
     &naming_cases::NAMING,
     &name_reading_cases::NAME_READING,

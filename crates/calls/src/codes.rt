@@ -1,5 +1,5 @@
 // The kinds of call on code points: 1 the sorter, 2 the one step, 3 full parts, 4 joining, 5 simple
-// form, 7 filler groups.
+// form, 6 gathered form, 7 filler groups.
 // Not here: how a call comes in and an answer goes out.
 use crate::reply;
 use crate::reply::Reply;
@@ -53,6 +53,7 @@ pub fn call(kind: u32, code: u32, text: &[u32], out: &mut [u32]) -> Reply {
         3 => reply::filled(letters::apart::full_parts(text, out)),
         4 => reply::filled(joining::text::join(text, out)),
         5 => reply::filled(clusters::simple::simple_form(text, out)),
+        6 => reply::filled(clusters::simple::gathered_form(text, out)),
         _ => reply::filled(fillers::groups::turn(text, out)),
     }
 }

@@ -160,8 +160,7 @@ fn answer_call(
         return false;
     }
     match kind {
-        1..=5 => answer_codes(kind, code, &mut text[..first], &mut lent[..room], bytes),
-        7 => answer_codes(kind, code, &mut text[..first], &mut lent[..room], bytes),
+        1..=7 => answer_codes(kind, code, &mut text[..first], &mut lent[..room], bytes),
         8 => answer_name(code, &mut text[..first], &mut filled[..room], bytes),
         9 => answer_read_name(&mut input[..first], &mut filled[..room], bytes),
         10 => answer_read(&mut input[..first], &mut lent[..room], bytes),

@@ -1,5 +1,8 @@
--- Crate clusters, proofs/: the laws of the table, of its rows, and of simple form, lowest first.
+-- Crate clusters, proofs/: the laws of the table, of its rows, of simple form, of the look-up of a cluster, of gathered form, and of its steps, lowest first.
 -- Not here: the definitions (specs/), and the proofs of the functions, which stand in folders of their own.
 pub mod Rule
 pub mod Rows
 pub mod SimpleForm
+pub mod Clustering
+pub mod GatheredForm
+pub mod Stepping

@@ -1,6 +1,6 @@
 -- The table of 768 numbers, and its rows by value. In order: one test over all 256 rows, which antt computes, and what it says of a table (`rows-right`);
 -- a row as the code reads it, inside the table and where a code is alone (`row-read`, `row-short`, `row-below`, `row-above`); the letters of a row by value
--- (`by-one`, `by-two`, `by-three`), and that they are the letters of every number (`letters-by`).
+-- (`by-one`, `by-two`, `by-three`); a row of the table by value (`row-of`), whose letters are those of every number (`letters-by`).
 -- Not here: the table, which stands in the code, and its rule (proofs/Rule). Assumes nothing.
 use mathlib.Core.Path.{_≡_, refl, sym, _∙_, ap}
 use mathlib.Core.Bool.{Bool, true, false, _&&_}
@@ -110,6 +110,14 @@ row-back (also {a = a} p (also {a = b} q none)) h k = simp (ne-eqb b 0 q)
 row-back (also {a = a} p (also {a = b} q (also {a = c} r none))) h k = simp (ne-eqb b 0 q, ne-eqb c 0 r)
 row-back (also p (also q (also r (also s t)))) h k = absurd (omega arith)
 
+-- a row of the table by value is 01's row
+pub row-of : {table : List ℕ} → Rows table → (c : ℕ) → 0x1100 ≤ c → c ≤ 0x11FF → rowAt table c ≡ rowIn (rowOf c)
+row-of {table} rows c l h =
+    let s = rows .size in
+    let code : 0x1100 + (c - 0x1100) ≡ c = omega arith in
+    let here : take 3 (drop (3 * (c - 0x1100)) table) ≡ rowOf c = rw code at (rows .row (c - 0x1100) (omega arith)) in
+    row-inside table c (omega arith) l h ∙ ap rowIn here
+
 -- THE LETTERS BY VALUE ARE THE LETTERS, of every number
 pub letters-by : {table : List ℕ} → Rows table → (c : ℕ) → lettersBy (rowAt table c) ≡ lettersOf c
 letters-by {table} rows c = test (within 0x1100 0x11FF c) listed (λ e. rw (← (row-outside table c e)) (sym (letters-outside c e)))
@@ -117,12 +125,7 @@ letters-by {table} rows c = test (within 0x1100 0x11FF c) listed (λ e. rw (← 
     listed : within 0x1100 0x11FF c ≡ true → lettersBy (rowAt table c) ≡ lettersOf c
     listed e =
         let l = within-least 0x1100 0x11FF c e in
-        let h = within-most 0x1100 0x11FF c e in
-        let s = rows .size in
-        let code : 0x1100 + (c - 0x1100) ≡ c = omega arith in
-        let here : take 3 (drop (3 * (c - 0x1100)) table) ≡ rowOf c = rw code at (rows .row (c - 0x1100) (omega arith)) in
-        ap lettersBy (row-inside table c (omega arith) l h ∙ ap rowIn here)
-        ∙ row-back (letters-nonzero c (λ z. omega arith)) (letters-least c) (letters-most c)
+        ap lettersBy (row-of rows c l (within-most 0x1100 0x11FF c e)) ∙ row-back (letters-nonzero c (λ z. omega arith)) (letters-least c) (letters-most c)
 
 -- the same of a row that was read: what a function that writes its letters asks and leaves
 module _ {table : List ℕ} (rows : Rows table) (c : ℕ) {row : Row} (read : row ≡ rowAt table c) where

@@ -132,7 +132,7 @@ pub simple-closed : (x : List ℕ) → All Closed (simple x)
 unfolding simple
 simple-closed x = all-each-of lettersOf (letters-all Closed (λ l h k. step-other l (syllable-below l (omega arith)))) (full-closed x)
 
-closed-parts : {x : List ℕ} → All Closed x → fullParts x ≡ x
+pub closed-parts : {x : List ℕ} → All Closed x → fullParts x ≡ x
 closed-parts p = each-alone partsOf (all-map (λ c h. parts-one 2 c {p = One c} (sym h) refl) p)
 
 pub simple-simple : (x : List ℕ) → simple (simple x) ≡ simple x

@@ -3,12 +3,17 @@
 --
 -- In order: two parts of a text (`outs-append`, `ends-append`, `from-append`, `from-outs`); one letter more at the end (`outs-snoc`, `ends-snoc`); the
 -- cut law (`cut`); walls (`wall-fence`, `around`); cuts compose (`splits-after`); a machine that sees no difference between a letter and its parts
--- (`same-whole`).
+-- (`same-whole`); one machine behind another, and one that is fed parts (`from-behind`, `from-fed`); how much is written
+-- (`outs-most`).
 -- Assumes nothing.
 use mathlib.Core.Path.{_≡_, refl, sym, _∙_}
 use mathlib.Core.List.{List, [], _∷_, _++_, append-assoc, append-nil}
+use Prim.Native.Nat.{ℕ, _*_, _≤_}
+use native.Mathlib.Nat.{mul-suc}
+use native.Mathlib.Omega.{arith}
+use lib.ListN.{length, length-append}
 use Rattle.laws.specs.Lists.{each}
-use Rattle.laws.specs.Machines.{Machine, outs, ends, from, whole, Splits, Fence, Wall}
+use Rattle.laws.specs.Machines.{Machine, outs, ends, from, whole, Splits, Fence, Wall, behind, fed}
 
 module _ {S A B : Type 0} (m : Machine S A B) where
   -- ---- two parts of a text
@@ -70,3 +75,25 @@ pub same-whole : {S A B : Type 0} (m : Machine S A B) (f : A → List A)
 unfolding each
 same-whole m f o e [] s = refl
 same-whole m f o e (a ∷ x) s = rw (from-append m (f a) (each f x) s, o s a, e s a, same-whole m f o e x (m .step s a))
+
+-- ---- one machine behind another: what is written is what the second writes of what the first writes
+
+module _ {S T A B C : Type 0} (m : Machine S A B) (n : Machine T B C) where
+  pub from-behind : (x : List A) (s : S) (t : T) → from (behind m n) (s, t) x ≡ from n t (from m s x)
+  from-behind [] s t = refl
+  from-behind (a ∷ x) s t =
+      rw (from-append n (m .emit s a) (from m (m .step s a) x) t, from-behind x (m .step s a) (ends n t (m .emit s a)))
+
+-- ---- a machine that is fed the parts of each letter
+
+pub from-fed : {S A B C : Type 0} (f : A → List B) (m : Machine S B C) (x : List A) (s : S) → from (fed f m) s x ≡ from m s (each f x)
+unfolding each
+from-fed f m [] s = refl
+from-fed f m (a ∷ x) s = rw (from-append m (f a) (each f x) s, from-fed f m x (ends m s (f a)))
+
+-- ---- how much is written: at most k for each letter
+
+pub outs-most : {S A B : Type 0} (m : Machine S A B) (k : ℕ) → ((s : S) (a : A) → length (m .emit s a) ≤ k) → (x : List A) (s : S)
+    → length (outs m s x) ≤ k * length x
+outs-most m k h [] s = omega arith
+outs-most m k h (a ∷ x) s = simp (length-append, mul-suc) (omega (arith, h s a, outs-most m k h x (m .step s a)))

@@ -2,7 +2,8 @@
 -- And where what a machine reads may be cut in two. Any types of states and letters; the laws are in proofs/Machines. This is no loop over a buffer.
 --
 -- In order: `Machine`; what it writes and where it ends on the way (`outs`, `ends`); all that it writes (`from`, `whole`); a place to cut (`Splits`);
--- a letter before which every text may be cut (`Fence`); a fence that leaves nothing open (`Wall`).
+-- a letter before which every text may be cut (`Fence`); a fence that leaves nothing open (`Wall`); one machine that reads what another writes
+-- (`behind`), or the parts of each letter (`fed`).
 -- Assumes nothing.
 use mathlib.Core.Path.{_≡_}
 use mathlib.Core.List.{List, [], _∷_, _++_}
@@ -46,3 +47,16 @@ pub record Fence {S A B : Type 0} (m : Machine S A B) (a : A) : Type 0 where
 pub record Wall {S A B : Type 0} (m : Machine S A B) (a : A) : Type 0 where
   pub resets : (s : S) → m .step s a ≡ m .start
   pub closes : (s : S) → m .emit s a ≡ m .flush s ++ m .emit (m .start) a
+
+-- the machine n behind the machine m: it reads what m writes
+abbrev pub behind : {S T A B C : Type 0} → Machine S A B → Machine T B C → Machine (S × T) A C
+behind m n = record {
+  start = (m .start, n .start);
+  step = λ u a. (m .step (u .0) a, ends n (u .1) (m .emit (u .0) a));
+  emit = λ u a. outs n (u .1) (m .emit (u .0) a);
+  flush = λ u. from n (u .1) (m .flush (u .0));
+}
+
+-- the machine m where it reads, for each letter a, the letters f a
+abbrev pub fed : {S A B C : Type 0} → (A → List B) → Machine S B C → Machine S A C
+fed f m = record { start = m .start; step = λ s a. ends m s (f a); emit = λ s a. outs m s (f a); flush = m .flush }

@@ -1,4 +1,4 @@
-// The words that make a text of code points of a text of code points: join, parts, simple, groups. Each field of the line is a text, and is answered in a
+// The words that make a text of code points of a text of code points: join, parts, simple, gather, groups. Each field of the line is a text, and is answered in a
 // field. Not here: the other words (single).
 use crate::operand;
 use crate::put;
@@ -8,6 +8,7 @@ pub enum Text {
     Join,
     Parts,
     Simple,
+    Gather,
     Groups,
 }
 
@@ -16,6 +17,7 @@ fn make(call: Text, text: &[u32], made: &mut [u32]) -> Filled {
         Text::Join => joining::text::join(text, made),
         Text::Parts => letters::apart::full_parts(text, made),
         Text::Simple => clusters::simple::simple_form(text, made),
+        Text::Gather => clusters::simple::gathered_form(text, made),
         Text::Groups => fillers::groups::turn(text, made),
     }
 }

@@ -9,7 +9,7 @@ use crate::texts::Text;
 // A line is a word, a space and operands. A code is capital hex of four to six digits, a text codes
 // with single spaces between. A refusal is answered `refused N PLACE`.
 enum Word {
-    // `join A;B;..`, and so parts, simple and groups: texts; a text or a refusal for each, with `;` between.
+    // `join A;B;..`, and so parts, simple, gather and groups: texts; a text or a refusal for each, with `;` between.
     Text(Text),
     // `step C`: a code; one or two codes.
     Step,
@@ -46,6 +46,9 @@ fn word_of(word: &[u8]) -> Word {
     }
     if is_word(word, b"simple") {
         return Word::Text(Text::Simple);
+    }
+    if is_word(word, b"gather") {
+        return Word::Text(Text::Gather);
     }
     if is_word(word, b"groups") {
         return Word::Text(Text::Groups);

@@ -43,21 +43,6 @@ number-requires-5 c κs = search needs
 returns-5 : tie.Need-returns-5
 returns-5 c = search needs
 
-slice-relend-prefix-answer-codes : tie.Need-slice-relend-prefix-answer-codes
-slice-relend-prefix-answer-codes c = search needs
-
-slice-aggregate-answer-codes : tie.Need-slice-aggregate-answer-codes
-slice-aggregate-answer-codes c = sym (length-take-le _ _ (omega arith))
-
-slice-relend-prefix-answer-codes-2 : tie.Need-slice-relend-prefix-answer-codes-2
-slice-relend-prefix-answer-codes-2 c = search needs
-
-slice-aggregate-answer-codes-2 : tie.Need-slice-aggregate-answer-codes-2
-slice-aggregate-answer-codes-2 c = sym (length-take-le _ _ (omega arith))
-
-answer-codes-requires : tie.Need-answer-codes-requires
-answer-codes-requires c κs = search needs
-
 slice-relend-prefix-answer-name : tie.Need-slice-relend-prefix-answer-name
 slice-relend-prefix-answer-name c = search needs
 
@@ -133,20 +118,20 @@ slice-aggregate-answer-mend-2 c = sym (length-take-le _ _ (omega arith))
 answer-mend-requires : tie.Need-answer-mend-requires
 answer-mend-requires c κs = search needs
 
-slice-relend-prefix-answer-codes-3 : tie.Need-slice-relend-prefix-answer-codes-3
-slice-relend-prefix-answer-codes-3 c = search needs
+slice-relend-prefix-answer-codes : tie.Need-slice-relend-prefix-answer-codes
+slice-relend-prefix-answer-codes c = search needs
 
-slice-aggregate-answer-codes-3 : tie.Need-slice-aggregate-answer-codes-3
-slice-aggregate-answer-codes-3 c = sym (length-take-le _ _ (omega arith))
+slice-aggregate-answer-codes : tie.Need-slice-aggregate-answer-codes
+slice-aggregate-answer-codes c = sym (length-take-le _ _ (omega arith))
 
-slice-relend-prefix-answer-codes-4 : tie.Need-slice-relend-prefix-answer-codes-4
-slice-relend-prefix-answer-codes-4 c = search needs
+slice-relend-prefix-answer-codes-2 : tie.Need-slice-relend-prefix-answer-codes-2
+slice-relend-prefix-answer-codes-2 c = search needs
 
-slice-aggregate-answer-codes-4 : tie.Need-slice-aggregate-answer-codes-4
-slice-aggregate-answer-codes-4 c = sym (length-take-le _ _ (omega arith))
+slice-aggregate-answer-codes-2 : tie.Need-slice-aggregate-answer-codes-2
+slice-aggregate-answer-codes-2 c = sym (length-take-le _ _ (omega arith))
 
-answer-codes-requires-2 : tie.Need-answer-codes-requires-2
-answer-codes-requires-2 c κs = search needs
+answer-codes-requires : tie.Need-answer-codes-requires
+answer-codes-requires c κs = search needs
 
 same-length : tie.Need-same-length
 same-length c = search needs
@@ -220,23 +205,11 @@ same-length-18 c = search needs
 returns-11 : tie.Need-returns-11
 returns-11 c = search needs
 
-same-length-19 : tie.Need-same-length-19
-same-length-19 c = search needs
-
-same-length-20 : tie.Need-same-length-20
-same-length-20 c = search needs
-
-same-length-21 : tie.Need-same-length-21
-same-length-21 c = search needs
-
 returns-12 : tie.Need-returns-12
 returns-12 c = search needs
 
 returns-13 : tie.Need-returns-13
 returns-13 c = search needs
-
-returns-14 : tie.Need-returns-14
-returns-14 c = search needs
 
 pub answer-call-spec : {M : Type 1} → statement M
 answer-call-spec =
@@ -254,11 +227,6 @@ answer-call-spec =
     returns-4
     number-requires-5
     returns-5
-    slice-relend-prefix-answer-codes
-    slice-aggregate-answer-codes
-    slice-relend-prefix-answer-codes-2
-    slice-aggregate-answer-codes-2
-    answer-codes-requires
     slice-relend-prefix-answer-name
     slice-aggregate-answer-name
     slice-relend-prefix-answer-name-2
@@ -284,11 +252,11 @@ answer-call-spec =
     slice-relend-prefix-answer-mend-2
     slice-aggregate-answer-mend-2
     answer-mend-requires
-    slice-relend-prefix-answer-codes-3
-    slice-aggregate-answer-codes-3
-    slice-relend-prefix-answer-codes-4
-    slice-aggregate-answer-codes-4
-    answer-codes-requires-2
+    slice-relend-prefix-answer-codes
+    slice-aggregate-answer-codes
+    slice-relend-prefix-answer-codes-2
+    slice-aggregate-answer-codes-2
+    answer-codes-requires
     same-length
     same-length-2
     same-length-3
@@ -313,9 +281,5 @@ answer-call-spec =
     same-length-17
     same-length-18
     returns-11
-    same-length-19
-    same-length-20
-    same-length-21
     returns-12
-    returns-13
-    returns-14)
+    returns-13)

@@ -1,0 +1,152 @@
+// The kind gathered form: what cases are made for it. They lean on letters that two clusters could take.
+// It defines no answers: those stand with the definition of the gathered form.
+
+use crate::gathering::gathered_form;
+use crate::kinds::{no_calls, Kind};
+use crate::letters::LIMIT;
+use crate::random::Random;
+use crate::simple::{clusters, simple_letters, TABLE_FIRST, TABLE_LAST};
+use crate::simple_texts::simple_text;
+use crate::text_kinds::{packed, TextKind};
+use crate::texts;
+use crate::wire::{Call, Shape, Width};
+use crate::words;
+
+pub const GATHERED_FORM: Kind = Kind {
+    number: GATHERED.number,
+    name: "gathered form",
+    shape: Shape::CODES,
+    answer: |call| GATHERED.answer(call),
+    edges,
+    random: |random| GATHERED.random_call(random),
+    every,
+    stored,
+    forbidden: no_calls,
+    arguments: words::text_argument,
+    outcome: words::codes_in_buffer,
+};
+
+/// Of the repeated texts the second comes back longer than it was.
+pub const GATHERED: TextKind = TextKind {
+    number: 6,
+    lent: Width::Number,
+    whole: gathered_form,
+    growth: 7,
+    good_text: gathering_text,
+    repeated: &[&[0x1100], &[0x1107, 0xAC01], &[0x1109], &[0xAF66], &[0x41]],
+};
+
+/// The letters of which the clusters are made, with some that are of none.
+const LETTERS: [u32; 14] = [
+    0x1100, 0x1102, 0x1103, 0x1107, 0x1109, 0x110B, 0x110C, 0x1161, 0x1165, 0x1169, 0x116E, 0x1175,
+    0x11A8, 0x11BA,
+];
+
+/// Much that gathers: runs of single letters, the letters of clusters, and what is taken apart.
+fn gathering_text(random: &mut Random, length: usize) -> Vec<u32> {
+    if random.one_in(3) {
+        return simple_text(random, length);
+    }
+    let clusters = clusters();
+    let mut text = Vec::with_capacity(length + 3);
+    while text.len() < length {
+        match random.below(8) {
+            0..=3 => text.push(random.pick(&LETTERS)),
+            4 | 5 => text.extend(simple_letters(random.pick(&clusters))),
+            6 => text.push(random.between(0xAC00, 0xD7A3)),
+            _ => text.push(random.pick(&[0x0000, 0x41, 0x302E, 0x115F, 0x1160, 0x11A7])),
+        }
+    }
+    text.truncate(length);
+    text
+}
+
+/// Every run of letters of the given length.
+fn runs(count: usize) -> Vec<Vec<u32>> {
+    let mut runs = vec![Vec::new()];
+    for _ in 0..count {
+        runs = runs
+            .iter()
+            .flat_map(|run: &Vec<u32>| {
+                LETTERS
+                    .iter()
+                    .map(move |&letter| [run.clone(), vec![letter]].concat())
+            })
+            .collect();
+    }
+    runs
+}
+
+/// The letters of each cluster, beside a letter on either side, and of two clusters.
+fn beside_clusters() -> Vec<Vec<u32>> {
+    let mut pieces = Vec::new();
+    for cluster in clusters() {
+        let letters = simple_letters(cluster);
+        for letter in LETTERS {
+            pieces.push([vec![letter], letters.clone(), vec![0x41]].concat());
+            pieces.push([letters.clone(), vec![letter, 0x41]].concat());
+        }
+        pieces.push([letters.clone(), letters].concat());
+    }
+    pieces
+}
+
+fn each_code() -> Vec<u32> {
+    (TABLE_FIRST - 2..=TABLE_LAST + 2)
+        .chain(0xAC00..=0xD7A3)
+        .collect()
+}
+
+fn edges() -> Vec<Call> {
+    let mut calls = GATHERED.no_text();
+    calls.extend(GATHERED.long_spoilt());
+    for text in packed(beside_clusters()) {
+        calls.extend(GATHERED.exact_and_short(&text));
+    }
+    for run in runs(2) {
+        calls.extend(GATHERED.in_rooms_around(&run));
+    }
+    calls.extend(GATHERED.short_spoilt());
+    calls.extend(GATHERED.long_good());
+    calls.extend(GATHERED.exact_and_short(&each_code()));
+    calls
+}
+
+/// Every run of four letters, every cluster's letters, and every scalar value.
+fn every() -> Vec<Call> {
+    let mut calls = Vec::new();
+    for run in runs(4) {
+        calls.push(GATHERED.with_exact_room(&run));
+    }
+    for code in each_code() {
+        calls.extend(GATHERED.in_rooms_around(&[code]));
+    }
+    for block in texts::scalar_values().chunks(LIMIT) {
+        calls.push(GATHERED.with_exact_room(block));
+    }
+    calls
+}
+
+/// Refusal 1 is not among the stored ones: 16,385 code points would not be small.
+fn stored() -> Vec<Call> {
+    GATHERED.calls(&[
+        (&[0x1100, 0x1100, 0x1161], 2),
+        (&[], 0),
+        (&[0x1100, 0x1161, 0x1175], 1),
+        (&[0x1100, 0x1161, 0x1175], 0),
+        (&[0x1107, 0x1109, 0x1100], 1),
+        (&[0x1109, 0x1107, 0x1109, 0x1100], 2),
+        (&[0x1107, 0xAC01], 3),
+        (&[0x1107, 0xAC01], 2),
+        (&[0x1109, 0x1109, 0x1109, 0x1109], 2),
+        (&[0x1107, 0x1107, 0x1107, 0x110B], 2),
+        (&[0x1169, 0x1161, 0x1175, 0x1175], 2),
+        (&[0x11A8, 0x11BA, 0x11BA], 2),
+        (&[0xAC03, 0x11BA], 2),
+        (&[0x1100, 0x0000, 0x1100, 0x1100], 3),
+        (&[0x1100, 0x302E, 0x1100], 3),
+        (&[0x115F, 0x1160, 0x11C3, 0x1176], 4),
+        (&[0xD55C, 0xAE00, 0x20, 0xB2ED], 4),
+        (&[0x1100, 0xD800], 2),
+    ])
+}

@@ -1,0 +1,78 @@
+// Facts about the gathered form: the paper's cases, and what the rules promise of every text.
+// It runs no program and makes no cases; it holds only the definition of the form to account.
+
+use crate::facts::{refusal, Facts};
+use crate::gathering::{clustered, gathered_form};
+use crate::gathering_cases::GATHERED;
+use crate::letters::LIMIT;
+use crate::random::Random;
+use crate::simple::{clusters, simple_form, simple_letters};
+
+pub fn state_all(facts: &mut Facts) {
+    known_forms(facts);
+    every_cluster(facts);
+    seeded_texts(facts);
+    refused_texts(facts);
+}
+
+fn known_forms(facts: &mut Facts) {
+    let known: [(&[u32], &[u32]); 8] = [
+        (&[0x1100, 0x1100, 0x1161], &[0xAE4C]),
+        (&[0x1100, 0x1161, 0x1175], &[0xAC1C]),
+        (&[0x1107, 0x1109, 0x1100], &[0x1122]),
+        (&[0x1109, 0x1107, 0x1109, 0x1100], &[0x1132, 0x112D]),
+        (&[0x1107, 0xAC01], &[0x111E, 0x1161, 0x11A8]),
+        (&[0x1109, 0x1109, 0x1109, 0x1109], &[0x1134, 0x1109]),
+        (&[0xAC00, 0x11A8, 0x11BA], &[0xAC03]),
+        (&[0x1100, 0x302E, 0x1100], &[0x1100, 0x302E, 0x1100]),
+    ];
+    for (text, form) in known {
+        facts.state(
+            &format!("{text:X?} gathers to {form:X?}"),
+            gathered_form(text) == form,
+        );
+    }
+}
+
+fn every_cluster(facts: &mut Facts) {
+    let whole = clusters()
+        .into_iter()
+        .all(|code| clustered(&simple_letters(code)) == [code]);
+    facts.state("the letters of every cluster gather to it", whole);
+}
+
+/// Of seeded texts: the simple form stays, gathering again changes nothing, and letters alone
+/// gather as their simple form does.
+fn seeded_texts(facts: &mut Facts) {
+    let mut random = Random::new(6);
+    let mut texts = Vec::new();
+    for _ in 0..2_000 {
+        let length = random.below(40);
+        texts.push((GATHERED.good_text)(&mut random, length));
+    }
+    let all = |holds: &dyn Fn(&[u32]) -> bool| texts.iter().all(|text| holds(text));
+    let kept = all(&|text| simple_form(&gathered_form(text)) == simple_form(text));
+    facts.state(
+        "a gathered text has the simple form that it came from",
+        kept,
+    );
+    let again = all(&|text| gathered_form(&gathered_form(text)) == gathered_form(text));
+    facts.state("gathering again changes nothing", again);
+    let same = all(&|text| gathered_form(&simple_form(text)) == gathered_form(text));
+    facts.state("a text and its simple form gather alike", same);
+    let bound = all(&|text| gathered_form(text).len() <= 7 * text.len());
+    facts.state("a gathered text has at most 7n code points", bound);
+}
+
+fn refused_texts(facts: &mut Facts) {
+    let over = vec![0x1100; LIMIT + 1];
+    let cases: [(&str, &[u32], u32, (u32, u32)); 4] = [
+        ("one letter more is not gathered", &over, 0, (1, 16_384)),
+        ("a surrogate is not gathered", &[0x1100, 0xD800], 0, (2, 1)),
+        ("three code points need three", &[0x1107, 0xAC01], 2, (3, 3)),
+        ("and have them", &[0x1107, 0xAC01], 3, (0, 0)),
+    ];
+    for (fact, text, room, expected) in cases {
+        facts.state(fact, refusal(gathered_form, text, room) == expected);
+    }
+}
