@@ -70,18 +70,8 @@ fn mean_groups() -> Vec<Vec<u32>> {
 }
 
 /// All texts over the small alphabet of up to the given length, longer ones first.
-pub fn short_texts(longest: usize) -> Vec<Vec<u32>> {
-    let mut texts = vec![Vec::new()];
-    let mut begin = 0;
-    for _ in 0..longest {
-        let end = texts.len();
-        for index in begin..end {
-            for code in SMALL_ALPHABET {
-                texts.push([&texts[index][..], &[code]].concat());
-            }
-        }
-        begin = end;
-    }
+pub fn longer_first(longest: usize) -> Vec<Vec<u32>> {
+    let mut texts = texts::short_texts(&SMALL_ALPHABET, longest);
     texts.reverse();
     texts
 }
@@ -125,7 +115,7 @@ fn edges() -> Vec<Call> {
     let mut calls = TURNED.no_text();
     calls.extend(TURNED.long_spoilt());
     calls.extend(in_long_texts(mean_groups()));
-    calls.extend(in_long_texts(short_texts(6)));
+    calls.extend(in_long_texts(longer_first(6)));
     calls.extend(TURNED.short_spoilt());
     calls.extend(TURNED.long_good());
     calls.extend(at_each_place());
@@ -175,7 +165,7 @@ fn every() -> Vec<Call> {
         calls.push(TURNED.call(&[FILLER, 0x3131, 0x314F, code], 4));
     }
     calls.extend(one_by_one(mean_groups()));
-    calls.extend(one_by_one(short_texts(6)));
+    calls.extend(one_by_one(longer_first(6)));
     calls
 }
 

@@ -2,7 +2,7 @@
 // It runs no program and makes no cases; it holds only the definition of the groups to account.
 
 use crate::facts::{refusal, Facts, TextCase};
-use crate::filler_cases::{short_texts, TURNED};
+use crate::filler_cases::{longer_first, TURNED};
 use crate::filler_texts::filler_text;
 use crate::fillers::*;
 use crate::letter_facts::state_for_all_syllables;
@@ -193,7 +193,7 @@ fn groups_of_texts(facts: &mut Facts, which: &str, texts: &[Vec<u32>]) {
 }
 
 fn groups_of_short_texts(facts: &mut Facts) {
-    let texts = short_texts(7);
+    let texts = longer_first(7);
     facts.state("there are 97656 short texts", texts.len() == 97_656);
     groups_of_texts(facts, "short texts", &texts);
 }

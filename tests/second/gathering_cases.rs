@@ -63,18 +63,8 @@ fn gathering_text(random: &mut Random, length: usize) -> Vec<u32> {
 
 /// Every run of letters of the given length.
 fn runs(count: usize) -> Vec<Vec<u32>> {
-    let mut runs = vec![Vec::new()];
-    for _ in 0..count {
-        runs = runs
-            .iter()
-            .flat_map(|run: &Vec<u32>| {
-                LETTERS
-                    .iter()
-                    .map(move |&letter| [run.clone(), vec![letter]].concat())
-            })
-            .collect();
-    }
-    runs
+    let texts = texts::short_texts(&LETTERS, count);
+    texts.into_iter().filter(|run| run.len() == count).collect()
 }
 
 /// The letters of each cluster, beside a letter on either side, and of two clusters.

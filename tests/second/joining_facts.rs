@@ -163,24 +163,6 @@ const SMALL_ALPHABET: [u32; 10] = [
     0x1100, 0x1161, 0x11A8, 0xAC00, 0xAC01, 0x11A7, 0x11C3, 0x1113, 0x1176, 0x302E,
 ];
 
-/// All texts over the small alphabet of up to the given length.
-fn short_texts(longest: usize) -> Vec<Vec<u32>> {
-    let mut texts = vec![Vec::new()];
-    let mut begin = 0;
-    for _ in 0..longest {
-        let end = texts.len();
-        for index in begin..end {
-            for code in SMALL_ALPHABET {
-                let mut text = texts[index].clone();
-                text.push(code);
-                texts.push(text);
-            }
-        }
-        begin = end;
-    }
-    texts
-}
-
 /// Whether two of the texts join to the same exactly when they have the same full parts: each
 /// joined text goes with one list of parts, and each list of parts with one joined text.
 fn same_exactly_with_parts(texts: &[Vec<u32>]) -> bool {
@@ -195,7 +177,7 @@ fn same_exactly_with_parts(texts: &[Vec<u32>]) -> bool {
 }
 
 fn joining_of_short_texts(facts: &mut Facts) {
-    let mut texts = short_texts(4);
+    let mut texts = texts::short_texts(&SMALL_ALPHABET, 4);
     facts.state("there are 11111 short texts", texts.len() == 11_111);
     joining_of_texts(facts, "short texts", &texts);
     let mut random = Random::new(6);

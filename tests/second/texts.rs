@@ -388,3 +388,19 @@ pub fn room(random: &mut Random, needed: usize, most: usize) -> u32 {
 pub fn bounded_room(room: usize) -> u32 {
     room.min(MOST_ROOM as usize) as u32
 }
+
+/// All texts over an alphabet of up to the given length, shorter ones first.
+pub fn short_texts(alphabet: &[u32], longest: usize) -> Vec<Vec<u32>> {
+    let mut texts = vec![Vec::new()];
+    let mut begin = 0;
+    for _ in 0..longest {
+        let end = texts.len();
+        for index in begin..end {
+            for &code in alphabet {
+                texts.push([&texts[index][..], &[code]].concat());
+            }
+        }
+        begin = end;
+    }
+    texts
+}
