@@ -2,9 +2,9 @@
 -- Not here: the first character of a text, whatever it is (proofs/Characters), one turn of the loops, and the copy of what passes (proofs/Turns).
 --
 -- In order: nothing, and one part behind the other (`passes-none`, `passes-on`); a well-formed sequence that joins with nothing behind it
--- (`passes-full`); ASCII, one byte and eight (`low-passes`, `low-eight`); a letter of the block 1100–11FF begins with E1 (`letter-first`), so before
--- any other byte nothing joins (`apart-behind`) and a character of three bytes passes (`three-stands`, `three-passes`); the high bits of eight bytes,
--- tested in one number (`bit-none`, `word-low`).
+-- (`character-full`, `passes-full`); ASCII, one byte and eight (`low-character`, `low-passes`, `low-eight`); a letter of the block 1100–11FF begins
+-- with E1 (`letter-first`), so before any other byte nothing joins (`apart-behind`) and a character of three bytes passes (`three-stands`,
+-- `three-character`, `three-passes`); the high bits of eight bytes, tested in one number (`bit-none`, `word-low`).
 -- Assumes nothing.
 use mathlib.Core.Path.{_≡_, refl, sym, _∙_, ap}
 use mathlib.Core.Bool.{true}
@@ -60,20 +60,32 @@ module _ (text : List ℕ) (at : ℕ) (u : List ℕ) (stands : drop at text ≡ 
   piece-front : pieces kindOf (drop at text) ≡ good u ∷ pieces kindOf (drop (at + length u) text)
   piece-front = ap (pieces kindOf) stands ∙ full-piece u (drop (at + length u) text) f
 
-  pub passes-full : at < length text
-      → grown (goodOf (valueOf u) (length u)) (pieces kindOf (drop (at + length u) text)) ≡ goodOf (valueOf u) (length u)
-      → Passes text at (at + length u)
-  passes-full h e =
-      let c : Character text at (goodOf (valueOf u) (length u)) = character-next text at h (sym e ∙ sym (ap characterFrom piece-front)) in
-      record { same = u; stands = stands; goes = rw (full-bytes u f) at (c .goes) }
+  -- it is a character
+  pub character-full : grown (goodOf (valueOf u) (length u)) (pieces kindOf (drop (at + length u) text)) ≡ goodOf (valueOf u) (length u)
+      → goodOf (valueOf u) (length u) ≡ characterFrom (pieces kindOf (drop at text))
+  character-full e = sym e ∙ sym (ap characterFrom piece-front)
+
+  -- and passes
+  pub passes-full : at < length text → goodOf (valueOf u) (length u) ≡ characterFrom (pieces kindOf (drop at text)) → Passes text at (at + length u)
+  passes-full h e = record { same = u; stands = stands; goes = rw (full-bytes u f) at (character-next text at h e .goes) }
 
 -- ---- ASCII
 
-pub low-passes : (text : List ℕ) (at : ℕ) → at < length text → getD text at 0 < 0x80 → Passes text at (at + 1)
-low-passes text at h l =
-    let a = getD text at 0 in
-    passes-full text at (a ∷ []) (rw add-one (drop-cons text at 0 h)) (full-by a (row-between 0x00 0x7F tt (omega arith) (omega arith)) ends) h
-    (stops (goodOf a 1) (pieces kindOf (drop (at + 1) text)) (λ b. pair-none a b (role-between 0x00 0x7F a tt (omega arith) (omega arith))))
+module _ (text : List ℕ) (at : ℕ) (h : at < length text) (l : getD text at 0 < 0x80) where
+  low-stands : drop at text ≡ getD text at 0 ∷ drop (at + 1) text
+  low-stands = rw add-one (drop-cons text at 0 h)
+
+  low-full : kindOf (getD text at 0 ∷ []) ≡ full
+  low-full = full-by (getD text at 0) (row-between 0x00 0x7F tt (omega arith) (omega arith)) ends
+
+  pub low-character : goodOf (getD text at 0) 1 ≡ characterFrom (pieces kindOf (drop at text))
+  low-character =
+      let a = getD text at 0 in
+      character-full text at (a ∷ []) low-stands low-full
+      (stops (goodOf a 1) (pieces kindOf (drop (at + 1) text)) (λ b. pair-none a b (role-between 0x00 0x7F a tt (omega arith) (omega arith))))
+
+  pub low-passes : Passes text at (at + 1)
+  low-passes = passes-full text at (getD text at 0 ∷ []) low-stands low-full h low-character
 
 -- one byte in front of what passes
 low-on : (text : List ℕ) (at to : ℕ) → to ≡ at + 1 → getD text at 0 < 0x80 → {end : ℕ} → Passes text to end → Passes text at end
@@ -143,13 +155,20 @@ three-stands text at h =
       drop-cons text (suc (suc at)) 0 (omega arith),
     )
 
-pub three-passes : (text : List ℕ) (at : ℕ) → at + 3 ≤ length text → {d : ℕ} → d ≡ getD text (at + 3) 0
-    → Three (getD text at 0) (getD text (at + 1) 0) (getD text (at + 2) 0) d → Passes text at (at + 3)
-three-passes text at h e t =
-    let u = getD text at 0 ∷ getD text (at + 1) 0 ∷ getD text (at + 2) 0 ∷ [] in
-    let next : getD (drop (at + 3) text) 0 0 ≡ getD text (at + 3) 0 = getD-drop (at + 3) text 0 0 ∙ rw add-zero in
-    passes-full text at u (three-stands text at h) (three-full t) (omega arith)
-    (apart-behind (valueOf u) 3 (drop (at + 3) text) (λ z. t .apart (e ∙ sym next ∙ z)))
+module _ (text : List ℕ) (at : ℕ) (h : at + 3 ≤ length text) {d : ℕ} (e : d ≡ getD text (at + 3) 0)
+    (t : Three (getD text at 0) (getD text (at + 1) 0) (getD text (at + 2) 0) d) where
+  pub three-character : goodOf (valueOf (getD text at 0 ∷ getD text (at + 1) 0 ∷ getD text (at + 2) 0 ∷ [])) 3
+      ≡ characterFrom (pieces kindOf (drop at text))
+  three-character =
+      let u = getD text at 0 ∷ getD text (at + 1) 0 ∷ getD text (at + 2) 0 ∷ [] in
+      let next : getD (drop (at + 3) text) 0 0 ≡ getD text (at + 3) 0 = getD-drop (at + 3) text 0 0 ∙ rw add-zero in
+      character-full text at u (three-stands text at h) (three-full t)
+      (apart-behind (valueOf u) 3 (drop (at + 3) text) (λ z. t .apart (e ∙ sym next ∙ z)))
+
+  pub three-passes : Passes text at (at + 3)
+  three-passes =
+      passes-full text at (getD text at 0 ∷ getD text (at + 1) 0 ∷ getD text (at + 2) 0 ∷ []) (three-stands text at h) (three-full t) (omega arith)
+      three-character
 
 -- ---- the test of eight bytes in one number
 

@@ -2,5 +2,6 @@
 // Not here: reading and writing by themselves (crate utf8), which two join (crate joining).
 pub mod character;
 pub mod passing;
+pub mod quick;
 pub mod spelled;
 pub mod text;

@@ -73,7 +73,7 @@ fn ones(text: &[u8], from: usize) -> usize
 }
 
 // The byte at an index, or 0 behind the end.
-fn byte(text: &[u8], at: usize) -> u8
+pub(crate) fn byte(text: &[u8], at: usize) -> u8
     ensures { λ r. ⌜ r ≡ getD (now (text .entry)) at 0 ⌝ }
 {
     if at < text.len() {
@@ -83,7 +83,7 @@ fn byte(text: &[u8], at: usize) -> u8
 }
 
 // A character from A000 to D7FF, and behind it no letter of the block 1100–11FF.
-fn is_three(a: u8, b: u8, c: u8, d: u8) -> bool
+pub(crate) fn is_three(a: u8, b: u8, c: u8, d: u8) -> bool
     ensures { λ r. ⌜ (r ≡ true → Three a b c d) ⌝ }
 {
     if a < 0xEA {

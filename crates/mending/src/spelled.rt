@@ -39,7 +39,7 @@ fn final_at(text: &[u8], at: usize) -> u32
 }
 
 // No syllable found.
-fn none() -> Taken
+pub(crate) fn none() -> Taken
     ensures { λ r. ⌜ r ≡ goodOf 0 0 ⌝ }
 {
     Taken {
