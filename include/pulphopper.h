@@ -13,7 +13,7 @@ extern "C" {
 /* What the caller must keep, since no callee can check it:
 
    - a pointer is good for the bytes that the length beside it says; NULL only with length 0;
-   - the buffers of one call do not overlap: a text is not mended in place.
+   - a buffer that is written to overlaps no other of the same call: a text is not mended in place.
 
          WRONG   pulphopper_mend(label, length, label, sizeof label);
 
@@ -68,6 +68,23 @@ pulphopper_answer pulphopper_name(uint32_t code, uint8_t *out, size_t out_len);
      value            the syllable
    Refuses PULPHOPPER_OVER_LIMIT (1), then PULPHOPPER_NO_NAME (5, value 0). */
 pulphopper_answer pulphopper_read_name(const uint8_t *name, size_t name_len);
+
+/* What pulphopper_rank says of the first label. */
+enum {
+    PULPHOPPER_BEFORE = 0,
+    PULPHOPPER_EQUAL = 1,
+    PULPHOPPER_AFTER = 2
+};
+
+/* Ranks two labels, each read and joined as pulphopper_mend does it, with no buffer: so the two spellings of one name rank equal, and alike against
+   every other. A longest run of the digits 0 to 9 is a number of any length, any other code point stands for itself. Numbers come before code points,
+   numbers rank by value (2 before 10, 07 equal to 7), code points by value; a label that is the beginning of another in these items comes first.
+
+     value            PULPHOPPER_BEFORE, PULPHOPPER_EQUAL or PULPHOPPER_AFTER
+
+   Swapping the labels swaps before and after, and the order is transitive: it may be used to sort. Refuses PULPHOPPER_OVER_LIMIT (1) where either
+   label has more than PULPHOPPER_LIMIT bytes. The two labels may overlap, since nothing is written. */
+pulphopper_answer pulphopper_rank(const uint8_t *first, size_t first_len, const uint8_t *second, size_t second_len);
 
 #ifdef __cplusplus
 }

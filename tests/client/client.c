@@ -20,6 +20,7 @@ int main(void) {
     RUN(the_answer_is_laid_out_as_the_header_says);
     check_mending();
     check_naming();
+    check_ranking();
     if (failed > 0) {
         printf("client: %lu of %lu checks failed\n", failed, passed + failed);
         return 1;

@@ -1,5 +1,5 @@
 /* What the files of the client share: counting, lent buffers between fences, and pages that may not be touched.
-   It calls nothing of the library: that is done in mending.c and naming.c, which hold each call to what include/pulphopper.h says of it. */
+   It calls nothing of the library: mending.c, naming.c and ranking.c do, which hold each call to what include/pulphopper.h says of it. */
 #ifndef CLIENT_H
 #define CLIENT_H
 
@@ -69,5 +69,6 @@ int is(pulphopper_answer answer, uint32_t refusal, uint64_t value, uint32_t coun
 
 void check_mending(void);
 void check_naming(void);
+void check_ranking(void);
 
 #endif

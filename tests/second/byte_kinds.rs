@@ -8,7 +8,7 @@ use crate::random::Random;
 use crate::text_kinds::packed;
 use crate::texts;
 use crate::utf8::{answer_of_bytes, Made};
-use crate::wire::{Answer, Call, Width, MOST_ELEMENTS, MOST_ROOM};
+use crate::wire::{bytes_of, elements_of, Answer, Call, Width, MOST_ELEMENTS, MOST_ROOM};
 
 pub struct ByteKind {
     pub number: u32,
@@ -28,8 +28,7 @@ pub struct ByteKind {
 
 impl ByteKind {
     pub fn answer(&self, call: &Call) -> Answer {
-        let bytes: Vec<u8> = call.a.iter().map(|&element| element as u8).collect();
-        match answer_of_bytes(&bytes, call.room, self.whole) {
+        match answer_of_bytes(&bytes_of(&call.a), call.room, self.whole) {
             Err(refusal) => refused(call, self.lent, refusal),
             Ok(made) => Answer {
                 second: made.ill_formed,
@@ -42,7 +41,7 @@ impl ByteKind {
         Call {
             kind: self.number,
             room: texts::bounded_room(room),
-            a: bytes.iter().copied().map(u32::from).collect(),
+            a: elements_of(bytes),
             ..Call::default()
         }
     }

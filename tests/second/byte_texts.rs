@@ -112,11 +112,15 @@ pub fn every_cut_sequence() -> Vec<Vec<u8>> {
     cut
 }
 
-/// The bytes with those in the places given replaced.
-pub fn with(bytes: &[u8], places: std::ops::Range<usize>, replacing: &[u8]) -> Vec<u8> {
-    let mut bytes = bytes.to_vec();
-    bytes.splice(places, replacing.iter().copied());
-    bytes
+/// The bytes, or code points, with those in the places given replaced.
+pub fn with<Element: Copy>(
+    elements: &[Element],
+    places: std::ops::Range<usize>,
+    replacing: &[Element],
+) -> Vec<Element> {
+    let mut elements = elements.to_vec();
+    elements.splice(places, replacing.iter().copied());
+    elements
 }
 
 /// Characters that a program may be tempted to treat in a way of its own, in front, within and at
@@ -168,7 +172,7 @@ pub const REPEATED: [&[u8]; 9] = [
     &[0xE1, 0x84, 0x80, 0xE1, 0x20, 0xA1, 0xF4, 0x90],
 ];
 
-pub fn repeated(pattern: &[u8], length: usize) -> Vec<u8> {
+pub fn repeated<Element: Copy>(pattern: &[Element], length: usize) -> Vec<Element> {
     pattern.iter().copied().cycle().take(length).collect()
 }
 
@@ -237,7 +241,12 @@ pub fn piece(random: &mut Random) -> Vec<u8> {
 
 /// The bytes of a good text, in which then a few are changed, lost or put in.
 pub fn damaged(random: &mut Random, good: TextMaker, length: usize) -> Vec<u8> {
-    let mut bytes = written(&good(random, length));
+    let bytes = written(&good(random, length));
+    with_damage(random, bytes)
+}
+
+/// The bytes with a few, often none, changed, lost or put in.
+pub fn with_damage(random: &mut Random, mut bytes: Vec<u8>) -> Vec<u8> {
     for _ in 0..random.below(4) {
         if bytes.is_empty() {
             return bytes;

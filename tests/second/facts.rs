@@ -5,18 +5,21 @@ use crate::cases::FULL_PARTS;
 use crate::filler_facts;
 use crate::gathering_facts;
 use crate::joining_facts;
-use crate::kinds::{kind_of, Kind, TABLE};
+use crate::kinds::{kind_of, Kind, TABLE, TO_COME};
+use crate::label_facts;
 use crate::letter_facts;
 use crate::letters::{answer_of_text, Refusal};
 use crate::mending_facts;
 use crate::naming_facts;
 use crate::published;
 use crate::random::Random;
+use crate::ranking_cases::RANKING;
+use crate::ranking_facts;
 use crate::reading_cases::READING;
 use crate::simple_facts;
 use crate::utf8::{answer_of_bytes, Made};
 use crate::utf8_facts;
-use crate::wire::{get_answer, get_call, put_answer, put_call, Call, Cursor, Shape, Width};
+use crate::wire::{get_answer, get_call, put_answer, put_call, Call, Cursor, Shape};
 use crate::writing_cases::WRITING;
 
 #[derive(Default)]
@@ -45,10 +48,13 @@ pub fn all() -> Facts {
     utf8_facts::state_all(&mut facts);
     mending_facts::state_all(&mut facts);
     naming_facts::state_all(&mut facts);
+    ranking_facts::state_all(&mut facts);
+    label_facts::state_all(&mut facts);
     files_of_normalization_tests(&mut facts);
     frames(&mut facts);
     frames_of_answers(&mut facts);
     frames_of_bytes(&mut facts);
+    frames_of_two_texts(&mut facts);
     frames_of_images(&mut facts);
     generator(&mut facts);
     stored_cases(&mut facts);
@@ -168,7 +174,34 @@ fn frames_of_bytes(facts: &mut Facts) {
     facts.state("such an answer is read as written", read == Some(answer));
 }
 
-/// No kind so far takes an image; the frames for it are ready.
+/// The second text stands behind the first; a kind that takes none has no place for it.
+fn frames_of_two_texts(facts: &mut Facts) {
+    let call = Call {
+        kind: RANKING.number,
+        a: vec![0x31],
+        b: vec![0xAC01, 0x32],
+        ..Call::default()
+    };
+    let mut bytes = Vec::new();
+    put_call(&call, &RANKING.shape, &mut bytes);
+    let elements = [0x31, 0, 0, 0, 0x01, 0xAC, 0, 0, 0x32, 0, 0, 0];
+    facts.state("b stands behind a", bytes[32..] == elements);
+    facts.state(
+        "nb is the last number",
+        bytes[24..32] == [1, 0, 0, 0, 2, 0, 0, 0],
+    );
+    let read = |bytes: &[u8], shape| get_call(&mut Cursor::new(bytes), |_| Some(shape));
+    let whole = read(&bytes, RANKING.shape);
+    facts.state("two texts are read as written", whole == Some(call));
+    let cut = read(&bytes[..43], RANKING.shape);
+    facts.state("a cut second text is not read", cut.is_none());
+    let none = read(&bytes, Shape::CODES);
+    facts.state("where there is no b none is read", none.is_none());
+    let bounds = (RANKING.shape.most_of_b(), Shape::CODES.most_of_b());
+    facts.state("nb has bounds", bounds == (20_000, 0));
+}
+
+/// An image has a bound of its own, and may be answered in place of the lent buffer.
 fn frames_of_images(facts: &mut Facts) {
     let mut call = Call {
         kind: 19,
@@ -177,13 +210,7 @@ fn frames_of_images(facts: &mut Facts) {
     };
     call.a.extend([1, 0xFF]);
     call.b.push(0xAC);
-    let width = Width::Byte;
-    let plain = Shape::BYTES;
-    let image = Shape {
-        image: true,
-        returns_image: true,
-        ..plain
-    };
+    let (plain, image) = (Shape::BYTES, Shape::IMAGE_AND_TEXT);
     let mut bytes = Vec::new();
     put_call(&call, &image, &mut bytes);
     facts.state("byte elements take a byte", bytes[32..] == [1, 0xFF, 0xAC]);
@@ -199,7 +226,7 @@ fn frames_of_images(facts: &mut Facts) {
     );
     let bounds = (image.most_of_a(), plain.most_of_a());
     facts.state("an image may be longer", bounds == (66_000, 20_000));
-    facts.state("an unchanged byte is A5", width.untouched() == 0xA5);
+    facts.state("an unchanged byte is A5", plain.lent.untouched() == 0xA5);
 }
 
 /// The first outputs of splitmix64 for seed 0, as published with the generator.
@@ -226,18 +253,16 @@ fn stored_bytes(kind: &Kind) -> usize {
 
 /// The stored cases show every refusal that fits into a small file, and leave room to spare.
 fn stored_cases(facts: &mut Facts) {
-    let calls: Vec<Call> = TABLE
-        .iter()
-        .copied()
-        .flat_map(|kind| (kind.stored)())
-        .collect();
-    for refusal in [0, 2, 3, 4, 5] {
-        let stored = calls
-            .iter()
-            .any(|call| (kind_of(call).answer)(call).refusal == refusal);
+    let kinds = || TABLE.iter().chain(TO_COME).copied();
+    for refusal in [0, 2, 3, 4, 5, 6, 7] {
+        let stored = kinds().any(|kind| {
+            let calls = (kind.stored)();
+            let mut answers = calls.iter().map(|call| (kind.answer)(call));
+            answers.any(|answer| answer.refusal == refusal)
+        });
         facts.state(&format!("refusal {refusal} is stored"), stored);
     }
-    for kind in TABLE.iter().copied() {
+    for kind in kinds() {
         let first = (kind.stored)().swap_remove(0);
         let good = (kind.answer)(&first).refusal == 0;
         facts.state(&format!("the first stored {} is good", kind.name), good);

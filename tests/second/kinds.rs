@@ -5,11 +5,14 @@ use crate::cases;
 use crate::filler_cases;
 use crate::gathering_cases;
 use crate::joining_cases;
+use crate::label_cases;
+use crate::label_writing_cases;
 use crate::letters::Refusal;
 use crate::mending_cases;
 use crate::name_reading_cases;
 use crate::naming_cases;
 use crate::random::Random;
+use crate::ranking_cases;
 use crate::reading_cases;
 use crate::simple_cases;
 use crate::texts;
@@ -55,6 +58,19 @@ pub const TABLE: &[&Kind] = &[
     &reading_cases::READING,
     &writing_cases::WRITING,
     &mending_cases::MENDING,
+    &ranking_cases::RANKING,
+    &ranking_cases::RANKING_OF_BYTES,
+];
+
+/// Kinds that are defined and held to facts, but that the program does not answer yet. To try one
+/// of them with it, its line moves from here to the end of TABLE.
+#[rustfmt::skip]
+pub const TO_COME: &[&Kind] = &[
+    &label_cases::FRESH_RECORD,
+    &label_cases::RECORD_READING,
+    &label_cases::IMAGE_READING,
+    &label_cases::IMAGE_ORDER,
+    &label_writing_cases::RECORD_WRITING,
 ];
 
 /// The largest kind number that the protocol gives out; the next one is unknown.
@@ -73,13 +89,23 @@ pub fn no_calls() -> Vec<Call> {
     Vec::new()
 }
 
-/// Fills numbers that no kind so far takes, in one of four calls, so that a program which looks at
-/// them is caught.
+/// Fills numbers that only the last kind takes, in one of four calls, so that a program which looks
+/// at them is caught.
 pub fn with_unused_numbers(mut call: Call, random: &mut Random) -> Call {
     if random.one_in(4) {
         call.y = texts::any_code(random);
         call.z = random.number();
         call.w = random.between(0, 3);
+    }
+    call
+}
+
+/// The same for a kind that takes no number at all and lends nothing: x and a room as well.
+pub fn with_all_unused(call: Call, random: &mut Random) -> Call {
+    let mut call = with_unused_numbers(call, random);
+    if random.one_in(4) {
+        call.x = texts::any_code(random);
+        call.room = texts::room(random, 3, 9);
     }
     call
 }

@@ -1,16 +1,21 @@
-// The lister, held to the definition in document 01: each text goes to a run of its own, and the whole output is compared.
+// The lister, held to the definition in document 01: which texts it is run on, and what it prints of each.
 // It has no rule of its own for reading, joining or names (utf8, joining, naming).
 
 use crate::joining::joined;
 use crate::letters::{is_syllable, LIMIT};
 use crate::mending_texts;
 use crate::naming::name_of;
+use crate::printing::{refused, Printing};
 use crate::random::Random;
-use crate::run::{Ending, Program};
+use crate::run::Program;
 use crate::utf8::read;
 
-/// What is listed of a text that is not over the limit is never longer.
-const MOST_LISTED: usize = 10 * LIMIT;
+const LISTER: Printing = Printing {
+    name: "lister",
+    printed,
+    // What is listed of a text that is not over the limit is never longer.
+    most: 10 * LIMIT,
+};
 const SEED: u64 = 2026;
 const RANDOM_TEXTS: usize = 150;
 
@@ -25,7 +30,7 @@ fn line_of(code: u32) -> String {
 /// The whole output of the lister.
 fn printed(text: &[u8]) -> Vec<u8> {
     if text.len() > LIMIT {
-        return b"refused 1\n".to_vec();
+        return refused(1);
     }
     let characters = joined(&read(text).codes);
     characters
@@ -64,37 +69,7 @@ fn random_texts() -> Vec<Vec<u8>> {
         .collect()
 }
 
-fn report(program: &Program, text: &[u8]) -> Option<String> {
-    let outcome = program.converse(
-        |input| input.write_all(text),
-        |output| output.rest(MOST_LISTED).map_err(|lack| lack.bytes_got),
-    );
-    let expected = printed(text);
-    match outcome {
-        Ok((Ok(listed), Ending::Status(0))) if listed == expected => None,
-        other => Some(format!(
-            "lister: of {} bytes {:02X?}.. it was to print {} bytes; {}",
-            text.len(),
-            &text[..text.len().min(16)],
-            expected.len(),
-            other.map_or_else(
-                |trouble| trouble,
-                |(listed, ending)| format!("{:?} bytes, {ending:?}", listed.map(|l| l.len()))
-            )
-        )),
-    }
-}
-
 /// How many texts were listed as they must be, or what was wrong.
 pub fn check(program: &Program) -> Result<usize, Vec<String>> {
-    let texts: Vec<Vec<u8>> = chosen().into_iter().chain(random_texts()).collect();
-    let reports: Vec<String> = texts
-        .iter()
-        .filter_map(|text| report(program, text))
-        .collect();
-    if reports.is_empty() {
-        Ok(texts.len())
-    } else {
-        Err(reports)
-    }
+    LISTER.check(program, &[chosen(), random_texts()].concat())
 }

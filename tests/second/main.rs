@@ -18,6 +18,11 @@ mod joining;
 mod joining_cases;
 mod joining_facts;
 mod kinds;
+mod label_cases;
+mod label_facts;
+mod label_file;
+mod label_texts;
+mod label_writing_cases;
 mod letter_facts;
 mod letter_names;
 mod letters;
@@ -31,9 +36,15 @@ mod name_texts;
 mod naming;
 mod naming_cases;
 mod naming_facts;
+mod printing;
 mod published;
 mod published_names;
 mod random;
+mod ranker;
+mod ranking;
+mod ranking_cases;
+mod ranking_facts;
+mod ranking_texts;
 mod reading_cases;
 mod run;
 mod simple;
@@ -60,6 +71,7 @@ const USAGE: &str = "usage:
   second published PROGRAM FILE_OF_NORMALIZATION_TESTS [--under EMULATOR]
   second names PROGRAM FILE_OF_DERIVED_NAMES [--under EMULATOR]
   second lister PROGRAM [--under EMULATOR]
+  second ranker PROGRAM [--under EMULATOR]
   second store FOLDER
   second show FILE_OF_CALLS FILE_OF_ANSWERS
   second self
@@ -171,6 +183,14 @@ fn lister(path: &str, words: &[String]) -> Result<ExitCode, String> {
     })))
 }
 
+fn ranker(path: &str, words: &[String]) -> Result<ExitCode, String> {
+    let program = options(words, &["--under"])?.program(path);
+    let outcome = ranker::check(&program);
+    Ok(verdict(outcome.map(|count| {
+        format!("{count} images are ranked as they must be")
+    })))
+}
+
 fn show(calls: &str, answers: &str) -> Result<ExitCode, String> {
     let outcome = store::show(calls, answers);
     Ok(outcome.map_or_else(
@@ -200,6 +220,7 @@ fn command(words: &[String]) -> Result<ExitCode, String> {
         ["published", path, file, ..] => published(path, file, &words[3..]),
         ["names", path, file, ..] => derived_names(path, file, &words[3..]),
         ["lister", path, ..] => lister(path, &words[2..]),
+        ["ranker", path, ..] => ranker(path, &words[2..]),
         ["store", folder] => Ok(verdict(Ok(store::store(folder)?))),
         ["show", calls, answers] => show(calls, answers),
         ["self"] => Ok(own_facts()),

@@ -9,7 +9,7 @@ use crate::mending_texts::*;
 use crate::random::Random;
 use crate::text_kinds::packed;
 use crate::utf8::Made;
-use crate::wire::{Call, Shape, Width};
+use crate::wire::{elements_of, Call, Shape, Width};
 use crate::words;
 
 pub const MENDING: Kind = Kind {
@@ -32,7 +32,7 @@ pub const MENDED: ByteKind = ByteKind {
     whole: |bytes| {
         let mending = mended(bytes);
         Made {
-            elements: mending.bytes.into_iter().map(u32::from).collect(),
+            elements: elements_of(&mending.bytes),
             ill_formed: mending.ill_formed,
         }
     },

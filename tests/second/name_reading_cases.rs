@@ -8,7 +8,7 @@ use crate::name_texts::{self, with_fault, FAULTS};
 use crate::naming::{answer_of_name, name_of, PREFIX};
 use crate::random::Random;
 use crate::texts;
-use crate::wire::{Answer, Call, Shape, Width, MOST_ELEMENTS};
+use crate::wire::{bytes_of, elements_of, Answer, Call, Shape, Width, MOST_ELEMENTS};
 use crate::words;
 
 /// It lends no buffer: its calls have no room.
@@ -27,8 +27,7 @@ pub const NAME_READING: Kind = Kind {
 };
 
 fn answer(call: &Call) -> Answer {
-    let bytes: Vec<u8> = call.a.iter().map(|&element| element as u8).collect();
-    match answer_of_name(&bytes) {
+    match answer_of_name(&bytes_of(&call.a)) {
         Err(refusal) => refused(call, Width::Byte, refusal),
         Ok(code) => by_value(call, Width::Byte, code, 0, 0),
     }
@@ -37,7 +36,7 @@ fn answer(call: &Call) -> Answer {
 pub fn name_call(bytes: &[u8]) -> Call {
     Call {
         kind: NAME_READING.number,
-        a: bytes.iter().copied().map(u32::from).collect(),
+        a: elements_of(bytes),
         ..Call::default()
     }
 }

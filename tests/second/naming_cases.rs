@@ -6,7 +6,7 @@ use crate::letters::is_syllable;
 use crate::naming::{answer_of_naming, name_of, LONGEST, PREFIX, SHORTEST};
 use crate::random::Random;
 use crate::texts;
-use crate::wire::{Answer, Call, Shape, Width, MOST_ROOM};
+use crate::wire::{elements_of, Answer, Call, Shape, Width, MOST_ROOM};
 use crate::words;
 
 /// It takes no elements; the lent buffer is of bytes.
@@ -26,7 +26,7 @@ pub const NAMING: Kind = Kind {
 
 fn answer(call: &Call) -> Answer {
     let outcome = answer_of_naming(call.x, call.room);
-    let elements = outcome.map(|name| name.into_iter().map(u32::from).collect());
+    let elements = outcome.map(|name| elements_of(&name));
     in_buffer(call, Width::Byte, elements)
 }
 

@@ -8,7 +8,7 @@ use crate::naming::LONGEST;
 use crate::naming_cases::naming_call;
 use crate::published::{try_all, version, Trial};
 use crate::run::Program;
-use crate::wire::Width;
+use crate::wire::{elements_of, Width};
 use std::collections::HashSet;
 use std::fs;
 
@@ -57,7 +57,7 @@ fn names_of(text: &str) -> Result<Vec<Named>, String> {
 /// The name of a syllable is given and read. Any other code point has none here, and its name in
 /// the file is read as no syllable's.
 fn trials(named: &Named) -> [Trial; 2] {
-    let bytes: Vec<u32> = named.name.bytes().map(u32::from).collect();
+    let bytes = elements_of(named.name.as_bytes());
     let refusal = |number| Refusal { number, place: 0 };
     let reading = name_call(named.name.as_bytes());
     let (naming, name, code) = if is_syllable(named.code) {

@@ -121,6 +121,12 @@ fn end_of(child: &mut Child, output_ended: bool) -> Result<Ending, String> {
     Ok(Ending::Stopped)
 }
 
+/// How many bytes are the same from the front on.
+pub fn equal_front(expected: &[u8], got: &[u8]) -> usize {
+    let pairs = expected.iter().zip(got);
+    pairs.take_while(|(expected, got)| expected == got).count()
+}
+
 /// The child's output, taken from the front.
 pub struct Output {
     receiver: Receiver<Vec<u8>>,

@@ -1,13 +1,10 @@
 // What ends the program with no answer: unknown kinds, broken bounds, cut calls; and no input.
 // It does not judge good answers beyond those that stand before a stop.
 
-use crate::cases::FULL_PARTS;
 use crate::kinds::{kind_of, Kind, LAST_KIND, TABLE};
-use crate::name_reading_cases::NAME_READING;
-use crate::reading_cases::READING;
-use crate::run::{Ending, Program};
+use crate::run::{equal_front, Ending, Program};
 use crate::wire::{put_answer, put_call, put_number, Call, Shape};
-use crate::wire::{CALL_HEADER, MOST_ELEMENTS, MOST_ROOM};
+use crate::wire::{CALL_HEADER, MOST_ROOM};
 use std::io::Write;
 
 /// Places of na, nb and room among the eight numbers of a call.
@@ -99,7 +96,8 @@ fn unknown_kinds(stops: &mut Vec<Stop>) {
     }
 }
 
-/// One over the bound with all elements there, so that only the bound can stop it.
+/// One over the bound with all elements there, so that only the bound can stop it. Where a kind
+/// takes no elements of b, one is over the bound.
 fn one_over(kind: &Kind, place: usize, bound: u32) -> Vec<u8> {
     let mut bytes = with_number(&good_call(kind), place, bound + 1);
     if place == ROOM_PLACE {
@@ -115,7 +113,7 @@ fn one_over(kind: &Kind, place: usize, bound: u32) -> Vec<u8> {
 fn bounds_of(shape: &Shape) -> [(&'static str, usize, u32); 3] {
     [
         ("na", NA_PLACE, shape.most_of_a()),
-        ("nb", NB_PLACE, MOST_ELEMENTS),
+        ("nb", NB_PLACE, shape.most_of_b()),
         ("room", ROOM_PLACE, MOST_ROOM),
     ]
 }
@@ -127,7 +125,7 @@ fn broken_bounds(stops: &mut Vec<Stop>) {
             let bytes = one_over(kind, place, bound);
             stops.push(stop(title, Around::BeforeAndBehind, &bytes));
             // The last three are small again when multiplied by four in 32 bits, or negative.
-            for number in [bound * 2, 0x4000_0001, 0x8000_0000, 0xFFFF_FFFF] {
+            for number in [bound * 2 + 2, 0x4000_0001, 0x8000_0000, 0xFFFF_FFFF] {
                 let title = format!("{} with {name} {number:X}", kind.name);
                 let bytes = with_number(&good_call(kind), place, number);
                 stops.push(stop(title, Around::BeforeAndBehind, &bytes));
@@ -162,16 +160,10 @@ fn cut_calls(stops: &mut Vec<Stop>) {
 
 /// Long calls without their last byte: also one that would be refused has to be there whole.
 fn long_cut_calls(stops: &mut Vec<Stop>) {
-    // Elements of four bytes, and of one; the last kind lends no buffer.
-    for kind in [&FULL_PARTS, &READING, &NAME_READING] {
-        for length in [8, 16_384, 16_385, MOST_ELEMENTS as usize] {
-            let call = Call {
-                kind: kind.number,
-                room: u32::from(kind.number != NAME_READING.number),
-                a: vec![0x41; length],
-                ..Call::default()
-            };
-            let bytes = call_bytes(&call);
+    let with_elements = |kind: &&Kind| !good_call(kind).a.is_empty();
+    for kind in TABLE.iter().copied().filter(with_elements) {
+        for length in [8, 16_384, 16_385, kind.shape.most_of_a()] {
+            let bytes = call_bytes(&long_call(kind, length));
             for missing in [1, 4, 5] {
                 let title = format!(
                     "{} of {length} elements but for the last {missing} bytes",
@@ -180,6 +172,18 @@ fn long_cut_calls(stops: &mut Vec<Stop>) {
                 stops.push(stop(title, Around::Before, &bytes[..bytes.len() - missing]));
             }
         }
+    }
+}
+
+/// So many elements, of b as many as may be: they stand last, and so are cut.
+fn long_call(kind: &Kind, length: u32) -> Call {
+    let length_of_b = kind.shape.most_of_b().min(length);
+    Call {
+        kind: kind.number,
+        room: 1,
+        a: vec![0x41; length as usize],
+        b: vec![0x41; length_of_b as usize],
+        ..Call::default()
     }
 }
 
@@ -209,11 +213,7 @@ fn trouble_with(program: &Program, stop: &Stop) -> Option<String> {
             "{} bytes of answers expected, {} or more got, equal up to byte {}",
             most,
             bytes.len(),
-            bytes
-                .iter()
-                .zip(&stop.expected)
-                .take_while(|(got, expected)| got == expected)
-                .count()
+            equal_front(&stop.expected, &bytes)
         )),
         Ok((_, Ending::Status(_))) => None,
         Ok((_, ending)) => Some(format!("the end was {ending:?}")),

@@ -1,6 +1,7 @@
 // What the kinds that make a text of a text share: their answers, calls, rooms and long texts.
 // It does not know what any of them makes: each brings that along.
 
+use crate::byte_texts::repeated;
 use crate::kinds::{in_buffer, with_unused_numbers};
 use crate::letters::{answer_of_text, LIMIT};
 use crate::random::Random;
@@ -112,8 +113,7 @@ impl TextKind {
         let mut calls = Vec::new();
         for length in [LIMIT - 1, LIMIT, LIMIT + 1, MOST_ELEMENTS as usize] {
             for pattern in self.repeated {
-                let text: Vec<u32> = pattern.iter().copied().cycle().take(length).collect();
-                calls.extend(self.in_rooms_around(&text));
+                calls.extend(self.in_rooms_around(&repeated(pattern, length)));
             }
             let text = (self.good_text)(&mut random, length);
             calls.extend(self.in_rooms_around(&text));

@@ -112,6 +112,18 @@ pub fn read(bytes: &[u8]) -> Reading {
     reading
 }
 
+/// Where the first ill-formed subpart begins, if there is one.
+pub fn first_ill_formed(bytes: &[u8]) -> Option<usize> {
+    let mut place = 0;
+    while place < bytes.len() {
+        match well_formed_front(&bytes[place..]) {
+            Some(length) => place += length,
+            None => return Some(place),
+        }
+    }
+    None
+}
+
 /// A byte behind the first, with the six bits of the code point from the given one on.
 fn following(code: u32, shift: u32) -> u8 {
     0b1000_0000 | ((code >> shift) & 0b0011_1111) as u8

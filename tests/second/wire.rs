@@ -38,7 +38,8 @@ impl Width {
 #[derive(Clone, Copy, Debug)]
 pub struct Shape {
     pub a: Width,
-    pub b: Width,
+    /// None where the kind takes no elements of b: a call that has some ends the program.
+    pub b: Option<Width>,
     pub lent: Width,
     /// a is a file image, which has a larger bound.
     pub image: bool,
@@ -50,7 +51,7 @@ impl Shape {
     /// Code points in, code points out; also right for calls without elements.
     pub const CODES: Shape = Shape {
         a: Width::Number,
-        b: Width::Number,
+        b: None,
         lent: Width::Number,
         image: false,
         returns_image: false,
@@ -59,7 +60,6 @@ impl Shape {
     /// Bytes in, code points out.
     pub const BYTES_TO_CODES: Shape = Shape {
         a: Width::Byte,
-        b: Width::Byte,
         ..Shape::CODES
     };
 
@@ -75,12 +75,47 @@ impl Shape {
         ..Shape::CODES
     };
 
+    /// Two texts in, of code points.
+    pub const TWO_TEXTS: Shape = Shape {
+        b: Some(Width::Number),
+        ..Shape::CODES
+    };
+
+    /// Two texts in, of bytes.
+    pub const TWO_TEXTS_OF_BYTES: Shape = Shape {
+        b: Some(Width::Byte),
+        ..Shape::BYTES
+    };
+
+    /// A file image in, bytes out.
+    pub const IMAGE: Shape = Shape {
+        image: true,
+        ..Shape::BYTES
+    };
+
+    /// A file image in, numbers out.
+    pub const IMAGE_TO_NUMBERS: Shape = Shape {
+        lent: Width::Number,
+        ..Shape::IMAGE
+    };
+
+    /// A file image and a text of bytes in, the image out.
+    pub const IMAGE_AND_TEXT: Shape = Shape {
+        b: Some(Width::Byte),
+        returns_image: true,
+        ..Shape::IMAGE
+    };
+
     pub fn most_of_a(&self) -> u32 {
         if self.image {
             MOST_IMAGE_BYTES
         } else {
             MOST_ELEMENTS
         }
+    }
+
+    pub fn most_of_b(&self) -> u32 {
+        self.b.map_or(0, |_| MOST_ELEMENTS)
     }
 
     fn returned_elements(&self, call: &Call) -> usize {
@@ -125,6 +160,16 @@ impl Call {
     }
 }
 
+/// The elements that bytes are on the wire of a kind that takes bytes.
+pub fn elements_of(bytes: &[u8]) -> Vec<u32> {
+    bytes.iter().copied().map(u32::from).collect()
+}
+
+/// The bytes that such elements stand for.
+pub fn bytes_of(elements: &[u32]) -> Vec<u8> {
+    elements.iter().map(|&element| element as u8).collect()
+}
+
 pub fn put_number(number: u32, bytes: &mut Vec<u8>) {
     bytes.extend_from_slice(&number.to_le_bytes());
 }
@@ -143,7 +188,9 @@ pub fn put_call(call: &Call, shape: &Shape, bytes: &mut Vec<u8>) {
         put_number(number, bytes);
     }
     put_elements(&call.a, shape.a, bytes);
-    put_elements(&call.b, shape.b, bytes);
+    if let Some(width) = shape.b {
+        put_elements(&call.b, width, bytes);
+    }
 }
 
 pub fn put_answer(answer: &Answer, shape: &Shape, bytes: &mut Vec<u8>) {
@@ -208,7 +255,11 @@ pub fn get_call(cursor: &mut Cursor, shape_of: impl Fn(u32) -> Option<Shape>) ->
     let [kind, x, y, z, w, room, na, nb] = header;
     let shape = shape_of(kind)?;
     let a = cursor.elements(na as usize, shape.a)?;
-    let b = cursor.elements(nb as usize, shape.b)?;
+    let b = match shape.b {
+        Some(width) => cursor.elements(nb as usize, width)?,
+        None if nb == 0 => Vec::new(),
+        None => return None,
+    };
     Some(Call {
         kind,
         x,

@@ -79,6 +79,35 @@ fn elements_argument(call: &Call, width: Width) -> String {
     format!("{} room {}", list(&call.a, width), call.room)
 }
 
+/// The arguments of a kind that takes two texts of code points.
+pub fn two_texts(call: &Call) -> String {
+    two_lists(call, Width::Number)
+}
+
+/// The arguments of a kind that takes two texts of bytes.
+pub fn two_texts_of_bytes(call: &Call) -> String {
+    two_lists(call, Width::Byte)
+}
+
+fn two_lists(call: &Call, width: Width) -> String {
+    let [first, second] = [&call.a, &call.b].map(|text| match text.is_empty() {
+        true => "no text".to_string(),
+        false => list(text, width),
+    });
+    format!("{first} against {second} room {}", call.room)
+}
+
+/// The answer of a kind that ranks.
+pub fn order_by_value(_call: &Call, answer: &Answer) -> String {
+    let order = match answer.value {
+        0 => "before".to_string(),
+        1 => "equal".to_string(),
+        2 => "after".to_string(),
+        value => format!("no order ({value})"),
+    };
+    order + &unexpected_values(answer.second, answer.third)
+}
+
 /// The answer of a kind that fills the lent buffer with code points.
 pub fn codes_in_buffer(_call: &Call, answer: &Answer) -> String {
     in_buffer(answer, Width::Number) + &unexpected_values(answer.second, answer.third)
@@ -116,6 +145,43 @@ pub fn name_in_buffer(_call: &Call, answer: &Answer) -> String {
 /// The answer of a kind that gives a code point as its value.
 pub fn code_by_value(_call: &Call, answer: &Answer) -> String {
     code(answer.value) + &unexpected_values(answer.second, answer.third)
+}
+
+/// The answer of a kind that reads one record: its label stands in the lent buffer.
+pub fn record_in_buffer(_call: &Call, answer: &Answer) -> String {
+    let label = in_buffer(answer, Width::Byte);
+    format!("object {} berth {} {label}", answer.second, answer.third)
+}
+
+/// The answer of a kind that counts records.
+pub fn records_by_value(_call: &Call, answer: &Answer) -> String {
+    let rest = unexpected_values(answer.second, answer.third);
+    format!("{} records{rest}", answer.value)
+}
+
+/// The arguments of a kind that writes a record into an image.
+pub fn record_to_write(call: &Call) -> String {
+    let image = elements_argument(call, Width::Byte);
+    let way = match call.w {
+        0 => "as given".to_string(),
+        1 => "joined".to_string(),
+        way => format!("in no way ({way})"),
+    };
+    let label = list(&call.b, Width::Byte);
+    format!(
+        "object {} berth {} label {label} {way} as {} in {image}",
+        call.y, call.z, call.x
+    )
+}
+
+/// The answer of a kind that writes a record into an image.
+pub fn image_written(_call: &Call, answer: &Answer) -> String {
+    let values = match answer.value {
+        0 => String::new(),
+        value => format!(", value {value}"),
+    };
+    let rest = unexpected_values(answer.second, answer.third);
+    format!("{}{values}{rest}", list(&answer.lent, Width::Byte))
 }
 
 /// How many elements of the buffer the answer claims, as far as there are so many.

@@ -7,7 +7,7 @@ use crate::random::Random;
 use crate::text_kinds::TextKind;
 use crate::texts;
 use crate::utf8::written;
-use crate::wire::{Call, Shape, Width};
+use crate::wire::{elements_of, Call, Shape, Width};
 use crate::words;
 
 pub const WRITING: Kind = Kind {
@@ -27,7 +27,7 @@ pub const WRITING: Kind = Kind {
 pub const WRITTEN: TextKind = TextKind {
     number: 11,
     lent: Width::Byte,
-    whole: |text| written(text).into_iter().map(u32::from).collect(),
+    whole: |text| elements_of(&written(text)),
     growth: 4,
     good_text,
     repeated: &[

@@ -3,10 +3,11 @@
 mod codes;
 mod encoded;
 mod named;
+mod ranked;
 mod reply;
 mod wire;
 
-// What is read and written is at most this large.
+// What is read and written is at most this large: the elements of a and of b, each.
 const HEAD: usize = 32;
 
 const ELEMENTS: usize = 20000;
@@ -130,8 +131,28 @@ fn answer_read_name(text: &mut [u8], lent: &mut [u8], bytes: &mut [u8]) -> bool 
     write_bytes(answer, lent, bytes)
 }
 
+// Ranking code points: those of the first label and then those of the second. It fills nothing.
+fn answer_rank(first: usize, text: &mut [u32], lent: &mut [u32], bytes: &mut [u8]) -> bool {
+    if !read_numbers(bytes, text) {
+        return false;
+    }
+    wire::fill(lent);
+    let answer = ranked::codes(text, first);
+    write_answer(answer, lent, bytes)
+}
+
+// Ranking bytes, likewise.
+fn answer_rank_bytes(first: usize, text: &mut [u8], lent: &mut [u8], bytes: &mut [u8]) -> bool {
+    if !read_whole(text) {
+        return false;
+    }
+    wire::fill_bytes(lent);
+    let answer = ranked::encoded(text, first);
+    write_bytes(answer, lent, bytes)
+}
+
 // Answers the call whose head was read, and says whether to go on: no where it is too large, where
-// it is of no kind, and where it has elements of b, which none of these kinds takes.
+// it is of no kind, and where it has elements of b and is of a kind that takes none.
 fn answer_call(
     head: &[u8],
     text: &mut [u32],
@@ -144,19 +165,27 @@ fn answer_call(
     let code = wire::number(head, 1);
     let room = wire::number(head, 5) as usize;
     let first = wire::number(head, 6) as usize;
+    let second = wire::number(head, 7) as usize;
     if lent.len() < room {
         return false;
     }
     if filled.len() < room {
         return false;
     }
-    if text.len() < first {
+    if ELEMENTS < first {
         return false;
     }
-    if input.len() < first {
+    if ELEMENTS < second {
         return false;
     }
-    if wire::number(head, 7) != 0 {
+    let both = first + second;
+    if text.len() < both {
+        return false;
+    }
+    if input.len() < both {
+        return false;
+    }
+    if !ranked::takes(kind, second) {
         return false;
     }
     match kind {
@@ -166,6 +195,8 @@ fn answer_call(
         10 => answer_read(&mut input[..first], &mut lent[..room], bytes),
         11 => answer_write(&mut text[..first], &mut filled[..room], bytes),
         12 => answer_mend(&mut input[..first], &mut filled[..room], bytes),
+        13 => answer_rank(first, &mut text[..both], &mut lent[..room], bytes),
+        14 => answer_rank_bytes(first, &mut input[..both], &mut filled[..room], bytes),
         _ => false,
     }
 }
@@ -203,8 +234,8 @@ fn all_calls(
 
 fn main() {
     let mut head = [0u8; HEAD];
-    let mut text = [0u32; ELEMENTS];
-    let mut input = [0u8; ELEMENTS];
+    let mut text = [0u32; 2 * ELEMENTS];
+    let mut input = [0u8; 2 * ELEMENTS];
     let mut lent = [0u32; ROOM];
     let mut filled = [0u8; ROOM];
     let mut bytes = [0u8; 4 * ROOM + 16];

@@ -1,6 +1,7 @@
 -- Laws of what C is told: a refusal (`refused-is`); an answer by what mending answers (`mends-done`, `mends-few`, `mends-refused`), by what naming
--- answers (`names-done`, `names-refused`) and by what reading a name does (`reads-done`, `reads-refused`); and that any two results that a contract
--- admits are equal (`mends-unique`, `names-unique`, `reads-unique`). Not here: the verdicts (crate answers). Assumes nothing.
+-- answers (`names-done`, `names-refused`), by what reading a name does (`reads-done`, `reads-refused`) and by what ranking does (`ranks-done`,
+-- `ranks-refused`); and that any two results that a contract admits are equal (`mends-unique`, `names-unique`, `reads-unique`, `ranks-unique`).
+-- Not here: the verdicts (crate answers). Assumes nothing.
 use mathlib.Core.Path.{_≡_, sym, _∙_, ap}
 use mathlib.Core.List.{List}
 use Prim.Native.Nat.{ℕ, _≤_}
@@ -18,7 +19,11 @@ use Rattle.mending.proofs.Damage.{done-few}
 use Rattle.names.specs.Naming.{Names, namedAs, ReadsName}
 use Rattle.names.specs.declared.reading.Named.{Named}
 use Rattle.names.specs.declared.reading.Named.the-variants.{Syllable, Refused as NamedRefused}
-use Rattle.pulphopper.specs.Replies.{refusedAnswer, countedAnswer, plainAnswer, Mends, NamesForC, ReadsNameForC}
+use Rattle.ranking.specs.Ranking.{orderNumber, ranked, RanksBytes}
+use Rattle.ranking.specs.declared.order.Order.{Order}
+use Rattle.ranking.specs.declared.order.Ranked.{Ranked}
+use Rattle.ranking.specs.declared.order.Ranked.the-variants.{Stands, Refused as RankRefused}
+use Rattle.pulphopper.specs.Replies.{refusedAnswer, countedAnswer, plainAnswer, orderAnswer, Mends, NamesForC, ReadsNameForC, RanksForC}
 use Rattle.pulphopper.specs.declared.Answer.{Answer}
 
 pub refused-is : (r : Refusal) {t : Told} → t ≡ told r → record { refusal = t .number; count = 0; value = t .place } ≡ refusedAnswer r
@@ -71,3 +76,18 @@ module _ (name : List ℕ) where
 
   pub reads-unique : {r s : Answer} → ReadsNameForC name r → ReadsNameForC name s → r ≡ s
   reads-unique f g = f .answers ∙ sym (g .answers)
+
+module _ (first second : List ℕ) where
+  -- a is what ranking answered
+  module _ {a : Ranked} (h : RanksBytes first second a) where
+    by-ranked : {r : Answer} → r ≡ orderAnswer (ranked a) → RanksForC first second r
+    by-ranked e = record { answers = e ∙ ap orderAnswer (h .answers) }
+
+    pub ranks-done : {o : Order} → a ≡ Stands o → {n : ℕ} → n ≡ orderNumber o → RanksForC first second (record { refusal = 0; count = 0; value = n })
+    ranks-done e q = by-ranked (rw (e, q))
+
+    pub ranks-refused : {f : Refusal} → a ≡ RankRefused f → {r : Answer} → r ≡ refusedAnswer f → RanksForC first second r
+    ranks-refused e q = by-ranked (q ∙ sym (ap (λ (x : Ranked). orderAnswer (ranked x)) e))
+
+  pub ranks-unique : {r s : Answer} → RanksForC first second r → RanksForC first second s → r ≡ s
+  ranks-unique f g = f .answers ∙ sym (g .answers)

@@ -13,6 +13,8 @@ use Rattle.utf8.specs.declared.read.Counted.{Counted}
 use Rattle.mending.specs.Mending.{mended}
 use Rattle.names.specs.Names.{nameOf, named}
 use Rattle.names.specs.Naming.{noSyllable, noName, syllableOr}
+use Rattle.ranking.specs.Ranking.{orderNumber, rankBytes, takesTwoBytes}
+use Rattle.ranking.specs.declared.order.Order.{Order}
 use Rattle.pulphopper.specs.declared.Answer.{Answer}
 
 -- a refusal: its number, its place, and count 0
@@ -29,6 +31,11 @@ abbrev pub plainAnswer : Verdict ℕ → Answer
 plainAnswer (done value) = record { refusal = 0; count = 0; value = value }
 plainAnswer (refused number place) = record { refusal = number; count = 0; value = place }
 
+-- a verdict of a call that ranks: the value is the number of the order
+abbrev pub orderAnswer : Verdict Order → Answer
+orderAnswer (done order) = record { refusal = 0; count = 0; value = orderNumber order }
+orderAnswer (refused number place) = record { refusal = number; count = 0; value = place }
+
 -- THE CONTRACT of mending for C: 1, then 3
 pub record Mends (text out : List ℕ) (r : Answer) (out′ : List ℕ) : Type 0 where
   pub answers : r ≡ countedAnswer (verdict (fits (takesBytes text) (mended text) out) (countedOf mended text))
@@ -42,3 +49,7 @@ pub record NamesForC (code : ℕ) (out : List ℕ) (r : Answer) (out′ : List �
 -- THE CONTRACT of reading a name for C: 1, then 5
 pub record ReadsNameForC (name : List ℕ) (r : Answer) : Type 0 where
   pub answers : r ≡ plainAnswer (verdict (inOrder (takesBytes name ∷ noName (named name) ∷ [])) (syllableOr (named name)))
+
+-- THE CONTRACT of ranking for C: 1 for the first label, then for the second
+pub record RanksForC (first second : List ℕ) (r : Answer) : Type 0 where
+  pub answers : r ≡ orderAnswer (verdict (takesTwoBytes first second) (rankBytes first second))

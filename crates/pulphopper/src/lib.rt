@@ -3,9 +3,11 @@
 use answers::Filled;
 use answers::Refusal;
 use names::reading::Named;
+use ranking::order;
+use ranking::order::Ranked;
 use utf8::read::Read;
 ghost use mathlib.Core.Path.{_≡_};
-ghost use Rattle.pulphopper.specs.Replies.{refusedAnswer, Mends, NamesForC, ReadsNameForC};
+ghost use Rattle.pulphopper.specs.Replies.{refusedAnswer, Mends, NamesForC, ReadsNameForC, RanksForC};
 
 // The answer of every call. A refusal is its number, and value its place; 0 is none.
 #[repr(C)]
@@ -71,5 +73,22 @@ pub extern "C" fn pulphopper_read_name(name: &[u8]) -> Answer
             value: code as u64,
         },
         Named::Refused(refusal) => refused(refusal),
+    }
+}
+
+// Ranks two labels: value is 0 where the first comes before the second, 1 where they are equal, 2
+// where it comes after.
+#[no_mangle]
+pub extern "C" fn pulphopper_rank(first: &[u8], second: &[u8]) -> Answer
+    ensures { λ r. ⌜ RanksForC (now (first .entry)) (now (second .entry)) r ⌝ }
+{
+    let answer = ranking::bytes::rank(first, second);
+    match answer {
+        Ranked::Stands(order) => Answer {
+            refusal: 0,
+            count: 0,
+            value: order::number_of(order) as u64,
+        },
+        Ranked::Refused(refusal) => refused(refusal),
     }
 }

@@ -25,6 +25,12 @@ number-requires-4 c κs = search needs
 cast-first : tie.Need-cast-first
 cast-first c = search needs
 
+number-requires-5 : tie.Need-number-requires-5
+number-requires-5 c κs = search needs
+
+cast-second : tie.Need-cast-second
+cast-second c = search needs
+
 returns : tie.Need-returns
 returns c = search needs
 
@@ -37,11 +43,20 @@ returns-3 c = search needs
 returns-4 : tie.Need-returns-4
 returns-4 c = search needs
 
-number-requires-5 : tie.Need-number-requires-5
-number-requires-5 c κs = search needs
+add-both : tie.Need-add-both
+add-both c = search needs
 
 returns-5 : tie.Need-returns-5
 returns-5 c = search needs
+
+returns-6 : tie.Need-returns-6
+returns-6 c = search needs
+
+takes-requires : tie.Need-takes-requires
+takes-requires c κs = search needs
+
+returns-7 : tie.Need-returns-7
+returns-7 c = search needs
 
 slice-relend-prefix-answer-name : tie.Need-slice-relend-prefix-answer-name
 slice-relend-prefix-answer-name c = search needs
@@ -118,6 +133,36 @@ slice-aggregate-answer-mend-2 c = sym (length-take-le _ _ (omega arith))
 answer-mend-requires : tie.Need-answer-mend-requires
 answer-mend-requires c κs = search needs
 
+slice-relend-prefix-answer-rank : tie.Need-slice-relend-prefix-answer-rank
+slice-relend-prefix-answer-rank c = search needs
+
+slice-aggregate-answer-rank : tie.Need-slice-aggregate-answer-rank
+slice-aggregate-answer-rank c = sym (length-take-le _ _ (omega arith))
+
+slice-relend-prefix-answer-rank-2 : tie.Need-slice-relend-prefix-answer-rank-2
+slice-relend-prefix-answer-rank-2 c = search needs
+
+slice-aggregate-answer-rank-2 : tie.Need-slice-aggregate-answer-rank-2
+slice-aggregate-answer-rank-2 c = sym (length-take-le _ _ (omega arith))
+
+answer-rank-requires : tie.Need-answer-rank-requires
+answer-rank-requires c κs = search needs
+
+slice-relend-prefix-answer-rank-bytes : tie.Need-slice-relend-prefix-answer-rank-bytes
+slice-relend-prefix-answer-rank-bytes c = search needs
+
+slice-aggregate-answer-rank-bytes : tie.Need-slice-aggregate-answer-rank-bytes
+slice-aggregate-answer-rank-bytes c = sym (length-take-le _ _ (omega arith))
+
+slice-relend-prefix-answer-rank-bytes-2 : tie.Need-slice-relend-prefix-answer-rank-bytes-2
+slice-relend-prefix-answer-rank-bytes-2 c = search needs
+
+slice-aggregate-answer-rank-bytes-2 : tie.Need-slice-aggregate-answer-rank-bytes-2
+slice-aggregate-answer-rank-bytes-2 c = sym (length-take-le _ _ (omega arith))
+
+answer-rank-bytes-requires : tie.Need-answer-rank-bytes-requires
+answer-rank-bytes-requires c κs = search needs
+
 slice-relend-prefix-answer-codes : tie.Need-slice-relend-prefix-answer-codes
 slice-relend-prefix-answer-codes c = search needs
 
@@ -142,8 +187,8 @@ same-length-2 c = search needs
 same-length-3 : tie.Need-same-length-3
 same-length-3 c = search needs
 
-returns-6 : tie.Need-returns-6
-returns-6 c = search needs
+returns-8 : tie.Need-returns-8
+returns-8 c = search needs
 
 same-length-4 : tie.Need-same-length-4
 same-length-4 c = search needs
@@ -154,8 +199,8 @@ same-length-5 c = search needs
 same-length-6 : tie.Need-same-length-6
 same-length-6 c = search needs
 
-returns-7 : tie.Need-returns-7
-returns-7 c = search needs
+returns-9 : tie.Need-returns-9
+returns-9 c = search needs
 
 same-length-7 : tie.Need-same-length-7
 same-length-7 c = search needs
@@ -166,8 +211,8 @@ same-length-8 c = search needs
 same-length-9 : tie.Need-same-length-9
 same-length-9 c = search needs
 
-returns-8 : tie.Need-returns-8
-returns-8 c = search needs
+returns-10 : tie.Need-returns-10
+returns-10 c = search needs
 
 same-length-10 : tie.Need-same-length-10
 same-length-10 c = search needs
@@ -178,8 +223,8 @@ same-length-11 c = search needs
 same-length-12 : tie.Need-same-length-12
 same-length-12 c = search needs
 
-returns-9 : tie.Need-returns-9
-returns-9 c = search needs
+returns-11 : tie.Need-returns-11
+returns-11 c = search needs
 
 same-length-13 : tie.Need-same-length-13
 same-length-13 c = search needs
@@ -190,8 +235,8 @@ same-length-14 c = search needs
 same-length-15 : tie.Need-same-length-15
 same-length-15 c = search needs
 
-returns-10 : tie.Need-returns-10
-returns-10 c = search needs
+returns-12 : tie.Need-returns-12
+returns-12 c = search needs
 
 same-length-16 : tie.Need-same-length-16
 same-length-16 c = search needs
@@ -202,14 +247,38 @@ same-length-17 c = search needs
 same-length-18 : tie.Need-same-length-18
 same-length-18 c = search needs
 
-returns-11 : tie.Need-returns-11
-returns-11 c = search needs
-
-returns-12 : tie.Need-returns-12
-returns-12 c = search needs
-
 returns-13 : tie.Need-returns-13
 returns-13 c = search needs
+
+same-length-19 : tie.Need-same-length-19
+same-length-19 c = search needs
+
+same-length-20 : tie.Need-same-length-20
+same-length-20 c = search needs
+
+same-length-21 : tie.Need-same-length-21
+same-length-21 c = search needs
+
+returns-14 : tie.Need-returns-14
+returns-14 c = search needs
+
+same-length-22 : tie.Need-same-length-22
+same-length-22 c = search needs
+
+same-length-23 : tie.Need-same-length-23
+same-length-23 c = search needs
+
+same-length-24 : tie.Need-same-length-24
+same-length-24 c = search needs
+
+returns-15 : tie.Need-returns-15
+returns-15 c = search needs
+
+returns-16 : tie.Need-returns-16
+returns-16 c = search needs
+
+returns-17 : tie.Need-returns-17
+returns-17 c = search needs
 
 pub answer-call-spec : {M : Type 1} → statement M
 answer-call-spec =
@@ -221,12 +290,17 @@ answer-call-spec =
     cast-room
     number-requires-4
     cast-first
+    number-requires-5
+    cast-second
     returns
     returns-2
     returns-3
     returns-4
-    number-requires-5
+    add-both
     returns-5
+    returns-6
+    takes-requires
+    returns-7
     slice-relend-prefix-answer-name
     slice-aggregate-answer-name
     slice-relend-prefix-answer-name-2
@@ -252,6 +326,16 @@ answer-call-spec =
     slice-relend-prefix-answer-mend-2
     slice-aggregate-answer-mend-2
     answer-mend-requires
+    slice-relend-prefix-answer-rank
+    slice-aggregate-answer-rank
+    slice-relend-prefix-answer-rank-2
+    slice-aggregate-answer-rank-2
+    answer-rank-requires
+    slice-relend-prefix-answer-rank-bytes
+    slice-aggregate-answer-rank-bytes
+    slice-relend-prefix-answer-rank-bytes-2
+    slice-aggregate-answer-rank-bytes-2
+    answer-rank-bytes-requires
     slice-relend-prefix-answer-codes
     slice-aggregate-answer-codes
     slice-relend-prefix-answer-codes-2
@@ -260,26 +344,34 @@ answer-call-spec =
     same-length
     same-length-2
     same-length-3
-    returns-6
+    returns-8
     same-length-4
     same-length-5
     same-length-6
-    returns-7
+    returns-9
     same-length-7
     same-length-8
     same-length-9
-    returns-8
+    returns-10
     same-length-10
     same-length-11
     same-length-12
-    returns-9
+    returns-11
     same-length-13
     same-length-14
     same-length-15
-    returns-10
+    returns-12
     same-length-16
     same-length-17
     same-length-18
-    returns-11
-    returns-12
-    returns-13)
+    returns-13
+    same-length-19
+    same-length-20
+    same-length-21
+    returns-14
+    same-length-22
+    same-length-23
+    same-length-24
+    returns-15
+    returns-16
+    returns-17)

@@ -1,0 +1,43 @@
+// The kinds of call that rank: 13 two texts of code points, 14 two of UTF-8. They alone take elements
+// of b, which come in behind those of a. Not here: how a call comes in and an answer goes out.
+use crate::reply;
+use crate::reply::Reply;
+use ranking::order;
+use ranking::order::Ranked;
+ghost use Prim.Native.Nat.{_≤_};
+
+// Whether a kind takes so many elements of b.
+pub fn takes(kind: u32, second: usize) -> bool {
+    match kind {
+        13 => true,
+        14 => true,
+        _ => second == 0,
+    }
+}
+
+fn replied(answer: Ranked) -> Reply {
+    match answer {
+        Ranked::Stands(order) => reply::done(order::number_of(order), 0, 0),
+        Ranked::Refused(refusal) => reply::refused(refusal),
+    }
+}
+
+// Where the first text ends, or where both end.
+fn end_of(first: usize, both: usize) -> usize
+    ensures { λ r. ⌜ r ≤ both ⌝ }
+{
+    if first < both {
+        return first;
+    }
+    both
+}
+
+pub fn codes(both: &[u32], first: usize) -> Reply {
+    let end = end_of(first, both.len());
+    replied(ranking::text::rank(&both[..end], &both[end..]))
+}
+
+pub fn encoded(both: &[u8], first: usize) -> Reply {
+    let end = end_of(first, both.len());
+    replied(ranking::bytes::rank(&both[..end], &both[end..]))
+}

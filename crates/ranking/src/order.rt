@@ -1,0 +1,53 @@
+// Where one label stands to another, and how two comparisons are one.
+// Not here: the labels (text, bytes), what is compared (step).
+use answers::Refusal;
+ghost use mathlib.Core.Path.{_≡_};
+ghost use Rattle.ranking.specs.Ranking.{byValue, thenBy, orderNumber};
+
+// Where the first of two labels stands.
+pub enum Order {
+    Before,
+    Equal,
+    After,
+}
+
+// The answer of a call that ranks.
+pub enum Ranked {
+    Stands(Order),
+    Refused(Refusal),
+}
+
+// Two numbers, by value.
+pub(crate) fn compared(first: u32, second: u32) -> Order
+    ensures { λ r. ⌜ r ≡ byValue first second ⌝ }
+{
+    if first < second {
+        return Order::Before;
+    }
+    if second < first {
+        return Order::After;
+    }
+    Order::Equal
+}
+
+// What the first comparison says, and where that is equal, what the next one says.
+pub(crate) fn followed(order: Order, next: Order) -> Order
+    ensures { λ r. ⌜ r ≡ thenBy order next ⌝ }
+{
+    match order {
+        Order::Before => Order::Before,
+        Order::Equal => next,
+        Order::After => Order::After,
+    }
+}
+
+// The number that stands for it where it is told as a number.
+pub fn number_of(order: Order) -> u32
+    ensures { λ r. ⌜ r ≡ orderNumber order ⌝ }
+{
+    match order {
+        Order::Before => 0,
+        Order::Equal => 1,
+        Order::After => 2,
+    }
+}
