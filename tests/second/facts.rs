@@ -5,7 +5,7 @@ use crate::cases::FULL_PARTS;
 use crate::filler_facts;
 use crate::gathering_facts;
 use crate::joining_facts;
-use crate::kinds::{kind_of, Kind, TABLE, TO_COME};
+use crate::kinds::{kind_of, Kind, TABLE};
 use crate::label_facts;
 use crate::letter_facts;
 use crate::letters::{answer_of_text, Refusal};
@@ -253,7 +253,7 @@ fn stored_bytes(kind: &Kind) -> usize {
 
 /// The stored cases show every refusal that fits into a small file, and leave room to spare.
 fn stored_cases(facts: &mut Facts) {
-    let kinds = || TABLE.iter().chain(TO_COME).copied();
+    let kinds = || TABLE.iter().copied();
     for refusal in [0, 2, 3, 4, 5, 6, 7] {
         let stored = kinds().any(|kind| {
             let calls = (kind.stored)();

@@ -60,12 +60,6 @@ pub const TABLE: &[&Kind] = &[
     &mending_cases::MENDING,
     &ranking_cases::RANKING,
     &ranking_cases::RANKING_OF_BYTES,
-];
-
-/// Kinds that are defined and held to facts, but that the program does not answer yet. To try one
-/// of them with it, its line moves from here to the end of TABLE.
-#[rustfmt::skip]
-pub const TO_COME: &[&Kind] = &[
     &label_cases::FRESH_RECORD,
     &label_cases::RECORD_READING,
     &label_cases::IMAGE_READING,

@@ -2,15 +2,22 @@
 // calls on standard input and writes answers on standard output; the work is the library's.
 mod codes;
 mod encoded;
+mod heads;
+mod labelled;
 mod named;
 mod ranked;
 mod reply;
 mod wire;
 
-// What is read and written is at most this large: the elements of a and of b, each.
+use heads::Head;
+
 const HEAD: usize = 32;
 
-const ELEMENTS: usize = 20000;
+// What is read and written is at most this large: code points of a and b, bytes of a and b, what is
+// lent.
+const CODES: usize = 40000;
+
+const BYTES: usize = 86000;
 
 const ROOM: usize = 120000;
 
@@ -151,8 +158,138 @@ fn answer_rank_bytes(first: usize, text: &mut [u8], lent: &mut [u8], bytes: &mut
     write_bytes(answer, lent, bytes)
 }
 
-// Answers the call whose head was read, and says whether to go on: no where it is too large, where
-// it is of no kind, and where it has elements of b and is of a kind that takes none.
+// Reading one record of an image: bytes in, the label out.
+fn answer_record(number: usize, image: &mut [u8], lent: &mut [u8], bytes: &mut [u8]) -> bool {
+    if !read_whole(image) {
+        return false;
+    }
+    wire::fill_bytes(lent);
+    let answer = labelled::record(image, number, lent);
+    write_bytes(answer, lent, bytes)
+}
+
+// Reading a whole image. It fills nothing.
+fn answer_image(image: &mut [u8], lent: &mut [u8], bytes: &mut [u8]) -> bool {
+    if !read_whole(image) {
+        return false;
+    }
+    wire::fill_bytes(lent);
+    let answer = labelled::image(image);
+    write_bytes(answer, lent, bytes)
+}
+
+// The order of an image's records: bytes in, numbers out.
+fn answer_order(image: &mut [u8], lent: &mut [u32], bytes: &mut [u8]) -> bool {
+    if !read_whole(image) {
+        return false;
+    }
+    wire::fill(lent);
+    let answer = labelled::order(image, lent);
+    write_answer(answer, lent, bytes)
+}
+
+// A fresh record. It takes no elements, and those that come are passed over.
+fn answer_fresh(text: &mut [u8], lent: &mut [u8], bytes: &mut [u8]) -> bool {
+    if !read_whole(text) {
+        return false;
+    }
+    wire::fill_bytes(lent);
+    let answer = labelled::fresh(lent);
+    write_bytes(answer, lent, bytes)
+}
+
+// Writing a record: what comes back is the image.
+fn answer_writing(head: Head, image: &mut [u8], label: &mut [u8], bytes: &mut [u8]) -> bool {
+    if !read_whole(image) {
+        return false;
+    }
+    if !read_whole(label) {
+        return false;
+    }
+    let answer = labelled::write(head, image, label);
+    write_bytes(answer, image, bytes)
+}
+
+// A call whose elements are code points.
+fn answer_text(
+    head: Head,
+    text: &mut [u32],
+    lent: &mut [u32],
+    filled: &mut [u8],
+    bytes: &mut [u8],
+) -> bool {
+    let kind = head.kind;
+    let code = head.x;
+    let room = head.room;
+    let first = head.first;
+    let second = head.second;
+    if lent.len() < room {
+        return false;
+    }
+    if filled.len() < room {
+        return false;
+    }
+    if text.len() < first {
+        return false;
+    }
+    if text.len() - first < second {
+        return false;
+    }
+    let both = first + second;
+    match kind {
+        8 => answer_name(code, &mut text[..first], &mut filled[..room], bytes),
+        11 => answer_write(&mut text[..first], &mut filled[..room], bytes),
+        13 => answer_rank(first, &mut text[..both], &mut lent[..room], bytes),
+        _ => answer_codes(kind, code, &mut text[..first], &mut lent[..room], bytes),
+    }
+}
+
+// A call whose elements are bytes. The label that is to be written comes in where other kinds have
+// what they are lent.
+fn answer_bytes(
+    head: Head,
+    input: &mut [u8],
+    lent: &mut [u32],
+    filled: &mut [u8],
+    bytes: &mut [u8],
+) -> bool {
+    let kind = head.kind;
+    let number = head.x as usize;
+    let room = head.room;
+    let first = head.first;
+    let second = head.second;
+    if lent.len() < room {
+        return false;
+    }
+    if filled.len() < room {
+        return false;
+    }
+    if filled.len() < second {
+        return false;
+    }
+    if input.len() < first {
+        return false;
+    }
+    if input.len() - first < second {
+        return false;
+    }
+    let both = first + second;
+    match kind {
+        9 => answer_read_name(&mut input[..first], &mut filled[..room], bytes),
+        10 => answer_read(&mut input[..first], &mut lent[..room], bytes),
+        12 => answer_mend(&mut input[..first], &mut filled[..room], bytes),
+        14 => answer_rank_bytes(first, &mut input[..both], &mut filled[..room], bytes),
+        15 => answer_fresh(&mut input[..first], &mut filled[..room], bytes),
+        16 => answer_record(number, &mut input[..first], &mut filled[..room], bytes),
+        17 => answer_image(&mut input[..first], &mut filled[..room], bytes),
+        18 => answer_order(&mut input[..first], &mut lent[..room], bytes),
+        19 => answer_writing(head, &mut input[..first], &mut filled[..second], bytes),
+        _ => false,
+    }
+}
+
+// Answers the call whose head was read, and says whether to go on: no where it is of no kind, too
+// large, or breaks another bound of its kind.
 fn answer_call(
     head: &[u8],
     text: &mut [u32],
@@ -161,44 +298,14 @@ fn answer_call(
     filled: &mut [u8],
     bytes: &mut [u8],
 ) -> bool {
-    let kind = wire::number(head, 0);
-    let code = wire::number(head, 1);
-    let room = wire::number(head, 5) as usize;
-    let first = wire::number(head, 6) as usize;
-    let second = wire::number(head, 7) as usize;
-    if lent.len() < room {
+    let head = heads::read(head);
+    if !heads::is_good(head) {
         return false;
     }
-    if filled.len() < room {
-        return false;
+    if heads::is_of_text(head.kind) {
+        return answer_text(head, text, lent, filled, bytes);
     }
-    if ELEMENTS < first {
-        return false;
-    }
-    if ELEMENTS < second {
-        return false;
-    }
-    let both = first + second;
-    if text.len() < both {
-        return false;
-    }
-    if input.len() < both {
-        return false;
-    }
-    if !ranked::takes(kind, second) {
-        return false;
-    }
-    match kind {
-        1..=7 => answer_codes(kind, code, &mut text[..first], &mut lent[..room], bytes),
-        8 => answer_name(code, &mut text[..first], &mut filled[..room], bytes),
-        9 => answer_read_name(&mut input[..first], &mut filled[..room], bytes),
-        10 => answer_read(&mut input[..first], &mut lent[..room], bytes),
-        11 => answer_write(&mut text[..first], &mut filled[..room], bytes),
-        12 => answer_mend(&mut input[..first], &mut filled[..room], bytes),
-        13 => answer_rank(first, &mut text[..both], &mut lent[..room], bytes),
-        14 => answer_rank_bytes(first, &mut input[..both], &mut filled[..room], bytes),
-        _ => false,
-    }
+    answer_bytes(head, input, lent, filled, bytes)
 }
 
 // Answers one call: false at the end of the input, and where a call is no good.
@@ -234,8 +341,8 @@ fn all_calls(
 
 fn main() {
     let mut head = [0u8; HEAD];
-    let mut text = [0u32; 2 * ELEMENTS];
-    let mut input = [0u8; 2 * ELEMENTS];
+    let mut text = [0u32; CODES];
+    let mut input = [0u8; BYTES];
     let mut lent = [0u32; ROOM];
     let mut filled = [0u8; ROOM];
     let mut bytes = [0u8; 4 * ROOM + 16];

@@ -1,19 +1,10 @@
-// The kinds of call that rank: 13 two texts of code points, 14 two of UTF-8. They alone take elements
-// of b, which come in behind those of a. Not here: how a call comes in and an answer goes out.
+// The kinds of call that rank: 13 two texts of code points, 14 two of UTF-8. The elements of b come in
+// behind those of a. Not here: how a call comes in and an answer goes out.
 use crate::reply;
 use crate::reply::Reply;
 use ranking::order;
 use ranking::order::Ranked;
 ghost use Prim.Native.Nat.{_≤_};
-
-// Whether a kind takes so many elements of b.
-pub fn takes(kind: u32, second: usize) -> bool {
-    match kind {
-        13 => true,
-        14 => true,
-        _ => second == 0,
-    }
-}
 
 fn replied(answer: Ranked) -> Reply {
     match answer {

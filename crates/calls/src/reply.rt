@@ -29,6 +29,20 @@ pub fn counted(length: usize, ills: usize) -> Reply {
     done(short(length), short(ills), 0)
 }
 
+pub fn found(length: usize, object: u32, berth: u16) -> Reply {
+    done(short(length), object, berth as u32)
+}
+
+// Refusal 7 of a whole image: the byte, and the record.
+pub fn bad_record(number: usize, byte: usize) -> Reply {
+    Reply {
+        refusal: 7,
+        value: short(byte),
+        second: short(number),
+        third: 0,
+    }
+}
+
 pub fn refused(refusal: Refusal) -> Reply {
     let told = answers::tell(refusal);
     Reply {

@@ -3,7 +3,7 @@
 -- In order: of items (`items-self`, `items-swapped`, `items-chain`, `items-equal`); of texts of code points (`rank-self`, `rank-swapped`,
 -- `rank-total`, `rank-transitive`, `before-transitive`, `equal-items`, `equal-alike`, `equal-alike-right`); the joined text alone counts
 -- (`same-joined-equal`, `same-joined-alike`, `rank-joined`); numbers by value (`rank-numbers`, `leading-zero`, `seven`, `ten-after-two`); of texts
--- of bytes (`same-mended-equal`, `same-mended-alike`, `rank-mended`).
+-- of bytes (`bytes-self`, `bytes-swapped`, `bytes-chain`, `same-mended-equal`, `same-mended-alike`, `rank-mended`).
 -- Not here: the items of a text (proofs/Items), the calls (proofs/Calls). Assumes nothing.
 use mathlib.Core.Path.{_≡_, refl, sym, _∙_, ap}
 use mathlib.Core.Bool.{true, false}
@@ -191,6 +191,19 @@ ten-after-two =
     (omega (arith, value-front 0x31 (0x30 ∷ []), value-front 0x30 [], value-front 0x32 [], value-none))
 
 -- ---- of texts of bytes
+
+-- equal to itself, one answer tells both ways, and three labels, two by two
+pub bytes-self : (x : List ℕ) → rankBytes x x ≡ Equal
+unfolding rankBytes
+bytes-self x = rank-self (readText x)
+
+pub bytes-swapped : (x y : List ℕ) → rankBytes y x ≡ swapped (rankBytes x y)
+unfolding rankBytes
+bytes-swapped x y = rank-swapped (readText x) (readText y)
+
+pub bytes-chain : (x y z : List ℕ) → Chain (rankBytes x y) (rankBytes y z) (rankBytes x z)
+unfolding rankBytes
+bytes-chain x y z = rank-chain (readText x) (readText y) (readText z)
 
 -- texts that are mended to the same are equal, and stand alike to every third
 mended-same : (s t : List ℕ) → mended s ≡ mended t → join (readText s) ≡ join (readText t)

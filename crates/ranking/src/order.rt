@@ -18,7 +18,7 @@ pub enum Ranked {
 }
 
 // Two numbers, by value.
-pub(crate) fn compared(first: u32, second: u32) -> Order
+pub fn compared(first: u32, second: u32) -> Order
     ensures { λ r. ⌜ r ≡ byValue first second ⌝ }
 {
     if first < second {
@@ -31,7 +31,7 @@ pub(crate) fn compared(first: u32, second: u32) -> Order
 }
 
 // What the first comparison says, and where that is equal, what the next one says.
-pub(crate) fn followed(order: Order, next: Order) -> Order
+pub fn followed(order: Order, next: Order) -> Order
     ensures { λ r. ⌜ r ≡ thenBy order next ⌝ }
 {
     match order {

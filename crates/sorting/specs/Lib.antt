@@ -1,0 +1,5 @@
+-- Crate sorting, specs/: the order of an image's records, how it is printed, and what the private functions promise, lowest first.
+-- Not here: any law or proof (proofs/).
+pub mod Sorting
+pub mod Printing
+pub mod Steps

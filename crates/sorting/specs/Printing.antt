@@ -1,0 +1,32 @@
+-- What the ranker prints: document 01, 'Programs': the record numbers, from 0, one a line, in label order.
+-- Not here: the order (specs/Sorting), the line of a refusal (crate answers). Assumes nothing.
+use mathlib.Core.Path.{_≡_}
+use mathlib.Core.Bool.{cond}
+use mathlib.Core.List.{List, [], _∷_, _++_}
+use Prim.Native.Nat.{ℕ, _+_, _/_, _%_}
+use lib.Dec.{ltb}
+use lib.ListN.{length}
+use Rattle.laws.specs.Lists.{each}
+use Rattle.answers.specs.Verdicts.{Fills}
+use Rattle.labels.specs.Images.{takesImage, badRecord, judgedAs, namedBy}
+use Rattle.labels.specs.declared.image.Judged.{Judged}
+use Rattle.sorting.specs.Sorting.{orderOf}
+
+abbrev pub digitOf : ℕ → ℕ
+digitOf d = 0x30 + d % 10
+
+-- a number below 1000, with no needless digit: that it reads back as the number is shown (proofs/Decimals)
+unfoldable pub decimalOf : ℕ → List ℕ
+decimalOf k = cond (ltb k 10) (digitOf k ∷ []) (cond (ltb k 100) (digitOf (k / 10) ∷ digitOf k ∷ []) (digitOf (k / 100) ∷ digitOf (k / 10) ∷ digitOf k ∷ []))
+
+unfoldable pub lineOf : ℕ → List ℕ
+lineOf k = decimalOf k ++ (0x0A ∷ [])
+
+-- THE LINES
+unfoldable pub printed : List ℕ → List ℕ
+printed image = each lineOf (orderOf image)
+
+-- THE CONTRACT of printing: 1, 6, 7, then 3; the value is the length
+pub record Prints (image out : List ℕ) (r : Judged) (out′ : List ℕ) : Type 0 where
+  pub fills : Fills (takesImage image) (printed image) (length (printed image)) out (judgedAs r) out′
+  pub names : namedBy r ≡ badRecord image
