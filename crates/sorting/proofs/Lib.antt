@@ -6,3 +6,4 @@ pub mod Placing
 pub mod Ordering
 pub mod Decimals
 pub mod Printed
+pub mod Bound
