@@ -65,6 +65,10 @@ const uint8_t *bytes_of(const char *text);
 
 int is(pulphopper_answer answer, uint32_t refusal, uint64_t value, uint32_t count);
 
+/* Does `refused` with lengths over the limit, up to SIZE_MAX; also such that are `small` again when cut to 32 or 16 bits, or small when two or three of
+   them are added. */
+void each_length_over(size_t small, void (*refused)(size_t length));
+
 /* ---- the checks, by what is called */
 
 void check_mending(void);

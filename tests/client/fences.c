@@ -82,3 +82,20 @@ const uint8_t *bytes_of(const char *text) { return (const uint8_t *)text; }
 int is(pulphopper_answer answer, uint32_t refusal, uint64_t value, uint32_t count) {
     return answer.refusal == refusal && answer.value == value && answer.count == count;
 }
+
+void each_length_over(size_t small, void (*refused)(size_t length)) {
+    refused(SIZE_MAX);
+    refused(SIZE_MAX - 1);
+    refused(SIZE_MAX / 2 + 1);
+    refused(SIZE_MAX / 2);
+    refused(SIZE_MAX / 3 + 1);
+    refused(SIZE_MAX / 3);
+    refused((size_t)UINT32_MAX);
+#if SIZE_MAX > UINT32_MAX
+    refused((size_t)UINT32_MAX + 1);
+    refused((size_t)UINT32_MAX + 1 + small);
+#endif
+    refused((size_t)0x10000 + small);
+    refused(PULPHOPPER_LIMIT + 2);
+    refused(PULPHOPPER_LIMIT + 1);
+}

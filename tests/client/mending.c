@@ -217,23 +217,11 @@ static void refused_unread(size_t text_len) {
     CHECK(is(pulphopper_mend(unreadable(), text_len, NULL, 0), PULPHOPPER_OVER_LIMIT, 16384, 0));
 }
 
-/* Also lengths that are small again, or negative, when multiplied by three or cut to 32 bits. */
+/* Once with lengths that are small when cut, once with such that are the limit then. */
 static void a_text_that_is_too_long_is_refused_unread(void) {
     static const uint8_t single = 0x41;
-    refused_unread(SIZE_MAX);
-    refused_unread(SIZE_MAX - 1);
-    refused_unread(SIZE_MAX / 2 + 1);
-    refused_unread(SIZE_MAX / 2);
-    refused_unread(SIZE_MAX / 3 + 1);
-    refused_unread(SIZE_MAX / 3);
-    refused_unread((size_t)UINT32_MAX);
-#if SIZE_MAX > UINT32_MAX
-    refused_unread((size_t)UINT32_MAX + 1);
-    refused_unread((size_t)UINT32_MAX + 2);
-    refused_unread((size_t)UINT32_MAX + 1 + PULPHOPPER_LIMIT);
-#endif
-    refused_unread(PULPHOPPER_LIMIT + 2);
-    refused_unread(PULPHOPPER_LIMIT + 1);
+    each_length_over(1, refused_unread);
+    each_length_over(PULPHOPPER_LIMIT, refused_unread);
     CHECK(is(pulphopper_mend(&single, SIZE_MAX, NULL, 0), PULPHOPPER_OVER_LIMIT, 16384, 0));
 }
 

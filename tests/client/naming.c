@@ -280,21 +280,8 @@ static void refused_unread(size_t length) {
     CHECK(is(pulphopper_read_name(unreadable(), length), PULPHOPPER_OVER_LIMIT, 16384, 0));
 }
 
-/* Also lengths that are a name's again when cut to 32 or 16 bits. */
-static void a_name_that_is_too_long_is_refused_unread(void) {
-    refused_unread(SIZE_MAX);
-    refused_unread(SIZE_MAX - 1);
-    refused_unread(SIZE_MAX / 2 + 1);
-    refused_unread(SIZE_MAX / 2);
-    refused_unread((size_t)UINT32_MAX);
-#if SIZE_MAX > UINT32_MAX
-    refused_unread((size_t)UINT32_MAX + 1);
-    refused_unread((size_t)UINT32_MAX + 1 + 18);
-#endif
-    refused_unread((size_t)0x10000 + 18);
-    refused_unread(PULPHOPPER_LIMIT + 2);
-    refused_unread(PULPHOPPER_LIMIT + 1);
-}
+/* 18 is the length of a name. */
+static void a_name_that_is_too_long_is_refused_unread(void) { each_length_over(18, refused_unread); }
 
 /* A name and so many bytes behind it that the whole is as long as the limit, and one longer. */
 static void the_limit_holds_behind(const known *one, int behind) {

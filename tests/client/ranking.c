@@ -156,21 +156,7 @@ static void refused_unread(size_t length) {
     CHECK(is_over(pulphopper_rank(unreadable(), PULPHOPPER_LIMIT, unreadable(), length)));
 }
 
-/* Also lengths that are small again when cut to 32 or 16 bits, or when two of them are added. */
-static void a_label_that_is_too_long_is_refused_unread(void) {
-    refused_unread(SIZE_MAX);
-    refused_unread(SIZE_MAX - 1);
-    refused_unread(SIZE_MAX / 2 + 1);
-    refused_unread(SIZE_MAX / 2);
-    refused_unread((size_t)UINT32_MAX);
-#if SIZE_MAX > UINT32_MAX
-    refused_unread((size_t)UINT32_MAX + 1);
-    refused_unread((size_t)UINT32_MAX + 2);
-#endif
-    refused_unread((size_t)0x10000 + 1);
-    refused_unread(PULPHOPPER_LIMIT + 2);
-    refused_unread(PULPHOPPER_LIMIT + 1);
-}
+static void a_label_that_is_too_long_is_refused_unread(void) { each_length_over(1, refused_unread); }
 
 static uint8_t long_label[MOST_TEXT];
 static uint8_t other_label[MOST_TEXT];
