@@ -3,6 +3,7 @@
 #include "client.h"
 
 #include <stdio.h>
+#include <string.h>
 
 static void the_answer_is_laid_out_as_the_header_says(void) {
     CHECK(sizeof(pulphopper_answer) == 16);
@@ -13,18 +14,35 @@ static void the_answer_is_laid_out_as_the_header_says(void) {
     CHECK(PULPHOPPER_NO_SYLLABLE == 4 && PULPHOPPER_NO_NAME == 5);
     CHECK(PULPHOPPER_LIMIT == 16384);
     CHECK(PULPHOPPER_NAME_MOST == 23);
+    CHECK(PULPHOPPER_MENDED_MOST(1 + 1) == 6 && 12 / PULPHOPPER_MENDED_MOST(2) == 2);
+}
+
+#if PULPHOPPER_VERSION < 10000 || PULPHOPPER_MENDED_MOST(PULPHOPPER_LIMIT) != 49152
+#error "a macro of the header is of no use in #if"
+#endif
+
+static void the_version_is_said_alike_in_every_form(void) {
+    char dotted[32];
+    sprintf(dotted, "%d.%d.%d", PULPHOPPER_VERSION_MAJOR, PULPHOPPER_VERSION_MINOR, PULPHOPPER_VERSION_PATCH);
+    CHECK(strcmp(dotted, PULPHOPPER_VERSION_STRING) == 0);
+    CHECK(PULPHOPPER_VERSION / 10000 == PULPHOPPER_VERSION_MAJOR);
+    CHECK(PULPHOPPER_VERSION / 100 % 100 == PULPHOPPER_VERSION_MINOR);
+    CHECK(PULPHOPPER_VERSION % 100 == PULPHOPPER_VERSION_PATCH);
 }
 
 int main(void) {
+    size_t most_stack;
     setvbuf(stdout, NULL, _IONBF, 0);
     RUN(the_answer_is_laid_out_as_the_header_says);
+    RUN(the_version_is_said_alike_in_every_form);
     check_mending();
     check_naming();
     check_ranking();
+    most_stack = check_stack();
     if (failed > 0) {
         printf("client: %lu of %lu checks failed\n", failed, passed + failed);
         return 1;
     }
-    printf("%lu checks passed\n", passed);
+    printf("%lu checks passed; a call took at most %lu bytes of stack\n", passed, (unsigned long)most_stack);
     return 0;
 }

@@ -1,5 +1,5 @@
 /* What the files of the client share: counting, lent buffers between fences, and pages that may not be touched.
-   It calls nothing of the library: mending.c, naming.c and ranking.c do, which hold each call to what include/pulphopper.h says of it. */
+   It calls nothing of the library: mending.c, naming.c, ranking.c and stack.c do, which hold each call to what include/pulphopper.h says of it. */
 #ifndef CLIENT_H
 #define CLIENT_H
 
@@ -23,7 +23,7 @@ void announce(const char *name);
 
 #define FENCE 64 /* and up to 15 bytes more, so that calls meet every alignment */
 #define MOST_TEXT (PULPHOPPER_LIMIT + 1)
-#define MOST_OUT (3 * MOST_TEXT)
+#define MOST_OUT PULPHOPPER_MENDED_MOST(MOST_TEXT)
 
 typedef struct lent {
     size_t used; /* how many bytes of the two are in use, fences included */
@@ -50,6 +50,8 @@ typedef struct pages {
     size_t size;
 } pages;
 
+/* So many bytes, a multiple of the page's size, or a page of them. */
+pages guarded_bytes(size_t size);
 pages guarded_pages(void);
 
 /* Where a text can be said to stand that must not be read: an untouchable page, else a single good byte. */
@@ -65,6 +67,9 @@ const uint8_t *bytes_of(const char *text);
 
 int is(pulphopper_answer answer, uint32_t refusal, uint64_t value, uint32_t count);
 
+/* Fills a text with a piece, again and again; the last may be cut. */
+void repeat(uint8_t *text, size_t text_len, const char *piece, size_t piece_len);
+
 /* Does `refused` with lengths over the limit, up to SIZE_MAX; also such that are `small` again when cut to 32 or 16 bits, or small when two or three of
    them are added. */
 void each_length_over(size_t small, void (*refused)(size_t length));
@@ -74,5 +79,10 @@ void each_length_over(size_t small, void (*refused)(size_t length));
 void check_mending(void);
 void check_naming(void);
 void check_ranking(void);
+
+/* The most stack that a call took, in bytes; every call has at most STACK_MOST. */
+size_t check_stack(void);
+
+#define STACK_MOST ((size_t)16 * 1024)
 
 #endif

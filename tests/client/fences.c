@@ -52,19 +52,29 @@ int unchanged_but(const lent *buffer, size_t from, size_t count) {
 
 /* ---- pages that may not be touched */
 
-pages guarded_pages(void) {
+#ifdef __linux__
+static size_t page_size(void) { return (size_t)sysconf(_SC_PAGESIZE); }
+#else
+static size_t page_size(void) { return 0; }
+#endif
+
+pages guarded_bytes(size_t size) {
     pages got = {NULL, 0};
 #ifdef __linux__
-    size_t page = (size_t)sysconf(_SC_PAGESIZE);
-    void *all = mmap(NULL, 3 * page, PROT_NONE, MAP_PRIVATE | MAP_ANONYMOUS, -1, 0);
-    if (all != MAP_FAILED && mprotect((uint8_t *)all + page, page, PROT_READ | PROT_WRITE) == 0) {
+    size_t page = page_size();
+    void *all = mmap(NULL, page + size + page, PROT_NONE, MAP_PRIVATE | MAP_ANONYMOUS, -1, 0);
+    if (all != MAP_FAILED && mprotect((uint8_t *)all + page, size, PROT_READ | PROT_WRITE) == 0) {
         got.good = (uint8_t *)all + page;
-        got.size = page;
+        got.size = size;
     }
     CHECK(got.good != NULL);
+#else
+    (void)size;
 #endif
     return got;
 }
+
+pages guarded_pages(void) { return guarded_bytes(page_size()); }
 
 const uint8_t *unreadable(void) {
     static const uint8_t single = 0x41;
@@ -81,6 +91,13 @@ const uint8_t *bytes_of(const char *text) { return (const uint8_t *)text; }
 
 int is(pulphopper_answer answer, uint32_t refusal, uint64_t value, uint32_t count) {
     return answer.refusal == refusal && answer.value == value && answer.count == count;
+}
+
+void repeat(uint8_t *text, size_t text_len, const char *piece, size_t piece_len) {
+    size_t i;
+    for (i = 0; i < text_len; i++) {
+        text[i] = (uint8_t)piece[i % piece_len];
+    }
 }
 
 void each_length_over(size_t small, void (*refused)(size_t length)) {

@@ -175,8 +175,8 @@ static void each_sample(void (*what)(const sample *one)) {
 static void all_are_mended(const sample *samples, size_t count) {
     size_t i;
     for (i = 0; i < count; i++) {
-        CHECK(is_made(&samples[i], mend_sample(&samples[i], 3 * samples[i].text_len)));
-        CHECK(is_made(&samples[i], mend_sample(&samples[i], 3 * samples[i].text_len + 100)));
+        CHECK(is_made(&samples[i], mend_sample(&samples[i], PULPHOPPER_MENDED_MOST(samples[i].text_len))));
+        CHECK(is_made(&samples[i], mend_sample(&samples[i], PULPHOPPER_MENDED_MOST(samples[i].text_len) + 100)));
     }
 }
 
@@ -227,19 +227,12 @@ static void a_text_that_is_too_long_is_refused_unread(void) {
 
 static uint8_t long_text[MOST_TEXT];
 
-static void make_long_text(const char *piece, size_t piece_len) {
-    size_t i;
-    for (i = 0; i < sizeof long_text; i++) {
-        long_text[i] = (uint8_t)piece[i % piece_len];
-    }
-}
-
 /* The text of LIMIT bytes needs `needed`; one byte more, whatever it is, is refused. */
 static void the_limit_holds_for(const char *piece, size_t piece_len, size_t needed, uint32_t count) {
-    make_long_text(piece, piece_len);
+    repeat(long_text, sizeof long_text, piece, piece_len);
     CHECK(is(mend(long_text, PULPHOPPER_LIMIT, needed), PULPHOPPER_DONE, needed, count));
     CHECK(is(mend(long_text, PULPHOPPER_LIMIT, needed - 1), PULPHOPPER_NO_ROOM, needed, 0));
-    CHECK(is(mend(long_text, PULPHOPPER_LIMIT, 3 * PULPHOPPER_LIMIT), PULPHOPPER_DONE, needed, count));
+    CHECK(is(mend(long_text, PULPHOPPER_LIMIT, PULPHOPPER_MENDED_MOST(PULPHOPPER_LIMIT)), PULPHOPPER_DONE, needed, count));
     CHECK(is(mend(long_text, PULPHOPPER_LIMIT + 1, MOST_OUT), PULPHOPPER_OVER_LIMIT, 16384, 0));
     CHECK(is(mend(long_text, PULPHOPPER_LIMIT + 1, 0), PULPHOPPER_OVER_LIMIT, 16384, 0));
 }
@@ -275,7 +268,7 @@ static void every_byte_alone_is_kept_or_replaced(void) {
 }
 
 static void exactly_enough_room_suffices_for(const sample *one) {
-    size_t most = 3 * one->text_len;
+    size_t most = PULPHOPPER_MENDED_MOST(one->text_len);
     CHECK(is_made(one, mend_sample(one, one->whole_len)));
     CHECK(is_made(one, mend_sample(one, one->whole_len + 1)));
     CHECK(is_made(one, mend_sample(one, most)));
@@ -319,7 +312,7 @@ static void a_joined_text_comes_back(void) { each_sample(comes_back); }
 /* What the library itself made, not what is expected of it. */
 static void changes_nothing_again(const uint8_t *text, size_t text_len) {
     static uint8_t first[MOST_OUT];
-    pulphopper_answer answer = mend(text, text_len, 3 * text_len);
+    pulphopper_answer answer = mend(text, text_len, PULPHOPPER_MENDED_MOST(text_len));
     size_t length = answer.refusal == PULPHOPPER_DONE ? (size_t)answer.value : 0;
     CHECK(answer.refusal == PULPHOPPER_DONE && length <= PULPHOPPER_LIMIT);
     if (length > PULPHOPPER_LIMIT) {
@@ -333,7 +326,7 @@ static void changes_nothing_again_for(const sample *one) { changes_nothing_again
 
 static void mending_again_changes_nothing(void) {
     each_sample(changes_nothing_again_for);
-    make_long_text(BYTES("\xE1\x84\x80\xE1\x85\xA1\x80\xE1\x86\xA8 ab"));
+    repeat(long_text, sizeof long_text, BYTES("\xE1\x84\x80\xE1\x85\xA1\x80\xE1\x86\xA8 ab"));
     changes_nothing_again(long_text, PULPHOPPER_LIMIT / 2);
 }
 
