@@ -9,7 +9,7 @@ INCLUDEDIR ?= $(PREFIX)/include
 DESTDIR ?=
 VERSION := $(shell awk '$$2 ~ /^PULPHOPPER_VERSION_(MAJOR|MINOR|PATCH)$$/ { printf "%s%s", dot, $$3; dot = "." }' include/pulphopper.h)
 
-# The recipes take the places from the environment, so that any path may have any characters.
+# The recipes take the places from the environment, so that a path may have spaces, and signs that mean something to the shell.
 export PREFIX LIBDIR INCLUDEDIR DESTDIR VERSION
 
 archive := target/staticlib/libpulphopper.a
