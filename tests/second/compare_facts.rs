@@ -17,7 +17,7 @@ pub fn state_all(facts: &mut Facts) {
     restricted(facts);
 }
 
-/// Each byte of a right answer, changed, is a wrong one.
+/// A right answer with one byte of its front changed is a wrong one.
 fn wrong_answers(facts: &mut Facts, kind: &Kind) {
     for call in (kind.stored)() {
         let mut bytes = Vec::new();
@@ -25,6 +25,7 @@ fn wrong_answers(facts: &mut Facts, kind: &Kind) {
         let seen = |bytes: &[u8]| check_answer(0, kind, &call, bytes).is_some();
         let name = format!("{} {:X?}", kind.name, call.header());
         facts.state(&format!("{name}: the right answer agrees"), !seen(&bytes));
+        // Of a large buffer a part does: one comparison serves all its elements.
         let front = bytes.len().min(ANSWER_HEADER + 64);
         let all_seen = (0..front).all(|place| {
             bytes[place] ^= 1;
