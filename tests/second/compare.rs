@@ -1,7 +1,7 @@
 // Compares a program's answers with the definitions: seeded cases, and the exhaustive ones.
 // It defines no answers and makes no cases; both come from the table of kinds.
 
-use crate::kinds::{kind_of, Kind, TABLE};
+use crate::kinds::{kind_of, Kind};
 use crate::random::Random;
 use crate::run::{Ending, Lack, Output, Program};
 use crate::wire::{get_answer, put_call, Call, Cursor};
@@ -17,10 +17,13 @@ pub fn differences(program: &Program, calls: &[Call]) -> Vec<String> {
     let feed = |pipe: &mut dyn Write| feed_calls(pipe, calls);
     match program.converse(feed, |output| check_answers(output, calls)) {
         Err(trouble) => vec![trouble],
-        Ok((reports, ending)) => {
+        Ok((mut reports, ending)) => {
             // The end says something only where the program was let come to it.
             if reports.is_empty() && ending != Ending::Status(0) {
                 return vec![format!("all answers agree, but the end was {ending:?}")];
+            }
+            if ending == Ending::Signal {
+                reports.push("a signal ended the program".to_string());
             }
             reports
         }
@@ -56,7 +59,7 @@ fn check_answers(output: &mut Output, calls: &[Call]) -> Vec<String> {
     reports
 }
 
-fn check_answer(index: usize, kind: &Kind, call: &Call, bytes: &[u8]) -> Option<String> {
+pub fn check_answer(index: usize, kind: &Kind, call: &Call, bytes: &[u8]) -> Option<String> {
     let mut cursor = Cursor::new(bytes);
     let got = get_answer(&mut cursor, call, &kind.shape);
     let got = got.expect("the bytes were counted by the same shape");
@@ -115,9 +118,12 @@ struct Source {
 }
 
 impl Source {
-    fn new(kind: &'static Kind, seed: u64) -> Source {
+    fn new(kind: &'static Kind, seed: u64, with_edges: bool) -> Source {
         let random = Random::for_kind(seed, kind.number);
-        let edges = (kind.edges)().into_iter();
+        let edges = match with_edges {
+            true => (kind.edges)().into_iter(),
+            false => Vec::new().into_iter(),
+        };
         Source {
             kind,
             edges,
@@ -137,26 +143,60 @@ impl Source {
     }
 }
 
-/// The seeded comparison: an even share of the calls to each kind, in shuffled order, so that
-/// what one kind leaves behind in the program meets every other kind.
-pub fn seeded(program: &Program, seed: u64, total: usize) -> Vec<String> {
-    let mut sources: Vec<Source> = TABLE.iter().map(|kind| Source::new(kind, seed)).collect();
-    let mut order: Vec<usize> = (0..total).map(|index| index % sources.len()).collect();
-    Random::new(seed).shuffle(&mut order);
-    for part in order.chunks(CALLS_IN_ONE_RUN) {
-        let calls: Vec<Call> = part.iter().map(|&index| sources[index].next()).collect();
-        let reports = differences(program, &calls);
+/// What a seeded comparison is made of.
+pub struct Plan {
+    pub kinds: Vec<&'static Kind>,
+    pub seed: u64,
+    pub calls: usize,
+    /// The number of a chunk where the plan is a part of a long run. Chunks have seeds of their own,
+    /// and no edges: those are the same under every seed, and a long run would only repeat them.
+    pub chunk: Option<u64>,
+}
+
+impl Plan {
+    /// An even share of the calls to each kind, in shuffled order, so that what one kind leaves
+    /// behind in the program meets every other kind.
+    pub fn calls(&self) -> impl Iterator<Item = Call> {
+        let seed = match self.chunk {
+            Some(chunk) => Random::seed_of_chunk(self.seed, chunk),
+            None => self.seed,
+        };
+        let kinds = self.kinds.iter();
+        let source = |kind: &&'static Kind| Source::new(kind, seed, self.chunk.is_none());
+        let mut sources: Vec<Source> = kinds.map(source).collect();
+        let mut order: Vec<usize> = (0..self.calls).map(|call| call % sources.len()).collect();
+        Random::new(seed).shuffle(&mut order);
+        order.into_iter().map(move |index| sources[index].next())
+    }
+
+    /// What to say the calls are, behind their number.
+    pub fn name(&self) -> String {
+        match self.chunk {
+            Some(chunk) => format!("chunk {chunk} of seed {}", self.seed),
+            None => format!("seed {}", self.seed),
+        }
+    }
+}
+
+/// The seeded comparison. Gives reports on what differs.
+pub fn seeded(program: &Program, plan: &Plan) -> Vec<String> {
+    let mut calls = plan.calls();
+    loop {
+        let part: Vec<Call> = calls.by_ref().take(CALLS_IN_ONE_RUN).collect();
+        if part.is_empty() {
+            return Vec::new();
+        }
+        let reports = differences(program, &part);
         if !reports.is_empty() {
             return reports;
         }
     }
-    Vec::new()
 }
 
 /// The exhaustive comparison: all such calls of a kind in one run. Gives their number.
-pub fn exhaustive(program: &Program) -> Result<usize, Vec<String>> {
+pub fn exhaustive(program: &Program, kinds: &[&Kind]) -> Result<usize, Vec<String>> {
     let mut total = 0;
-    for kind in TABLE.iter().copied() {
+    for kind in kinds {
         let calls = (kind.every)();
         let reports = differences(program, &calls);
         if !reports.is_empty() {

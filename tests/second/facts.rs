@@ -2,6 +2,7 @@
 // It runs no program; a broken fact means that this program is wrong, not the one under test.
 
 use crate::cases::FULL_PARTS;
+use crate::compare_facts;
 use crate::filler_facts;
 use crate::gathering_facts;
 use crate::joining_facts;
@@ -58,6 +59,7 @@ pub fn all() -> Facts {
     frames_of_images(&mut facts);
     generator(&mut facts);
     stored_cases(&mut facts);
+    compare_facts::state_all(&mut facts);
     facts
 }
 

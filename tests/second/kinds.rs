@@ -74,6 +74,20 @@ pub fn find(number: u32) -> Option<&'static Kind> {
     TABLE.iter().copied().find(|kind| kind.number == number)
 }
 
+/// The kinds of a list of numbers with commas between, for a program that has not all of them.
+pub fn chosen(list: &str) -> Result<Vec<&'static Kind>, String> {
+    let mut kinds: Vec<&'static Kind> = Vec::new();
+    for word in list.split(',') {
+        let kind = word.parse().ok().and_then(find);
+        let kind = kind.ok_or(format!("{word} is no kind's number"))?;
+        if kinds.iter().any(|listed| listed.number == kind.number) {
+            return Err(format!("the kind {word} is listed twice"));
+        }
+        kinds.push(kind);
+    }
+    Ok(kinds)
+}
+
 /// The kind of a call made here, which always stands in the table.
 pub fn kind_of(call: &Call) -> &'static Kind {
     find(call.kind).expect("a call of a kind outside the table was made")

@@ -6,6 +6,7 @@ mod byte_kinds;
 mod byte_texts;
 mod cases;
 mod compare;
+mod compare_facts;
 mod facts;
 mod filler_cases;
 mod filler_facts;
@@ -61,13 +62,15 @@ mod wire;
 mod words;
 mod writing_cases;
 
+use compare::Plan;
+use kinds::Kind;
 use run::Program;
 use std::process::ExitCode;
 
 const USAGE: &str = "usage:
-  second compare PROGRAM [--seed S] [--calls N] [--under EMULATOR]
-  second all PROGRAM [--under EMULATOR]
-  second stops PROGRAM [--under EMULATOR]
+  second compare PROGRAM [--seed S] [--calls N] [--chunk K] [--kinds LIST] [--under EMULATOR]
+  second all PROGRAM [--kinds LIST] [--under EMULATOR]
+  second stops PROGRAM [--kinds LIST] [--under EMULATOR]
   second published PROGRAM FILE_OF_NORMALIZATION_TESTS [--under EMULATOR]
   second names PROGRAM FILE_OF_DERIVED_NAMES [--under EMULATOR]
   second lister PROGRAM [--under EMULATOR]
@@ -88,6 +91,8 @@ fn usage() -> String {
 struct Options {
     seed: u64,
     calls: usize,
+    chunk: Option<u64>,
+    kinds: Vec<&'static Kind>,
     emulator: Option<String>,
 }
 
@@ -106,6 +111,8 @@ fn options(words: &[String], known: &[&str]) -> Result<Options, String> {
     let mut options = Options {
         seed: 1,
         calls: 20_000,
+        chunk: None,
+        kinds: kinds::TABLE.to_vec(),
         emulator: None,
     };
     for pair in words.chunks(2) {
@@ -117,6 +124,8 @@ fn options(words: &[String], known: &[&str]) -> Result<Options, String> {
             name if !known.contains(&name) => return Err(format!("{name} is not known here")),
             "--seed" => options.seed = number(word)?,
             "--calls" => options.calls = number(word)?,
+            "--chunk" => options.chunk = Some(number(word)?),
+            "--kinds" => options.kinds = kinds::chosen(word)?,
             _ => options.emulator = Some(word.clone()),
         }
     }
@@ -140,28 +149,34 @@ fn verdict(outcome: Result<String, Vec<String>>) -> ExitCode {
 }
 
 fn compare(path: &str, words: &[String]) -> Result<ExitCode, String> {
-    let options = options(words, &["--seed", "--calls", "--under"])?;
-    let reports = compare::seeded(&options.program(path), options.seed, options.calls);
+    let known = ["--seed", "--calls", "--chunk", "--kinds", "--under"];
+    let options = options(words, &known)?;
+    let program = options.program(path);
+    let plan = Plan {
+        kinds: options.kinds,
+        seed: options.seed,
+        calls: options.calls,
+        chunk: options.chunk,
+    };
+    let reports = compare::seeded(&program, &plan);
     if !reports.is_empty() {
         return Ok(verdict(Err(reports)));
     }
-    Ok(verdict(Ok(format!(
-        "{} calls agree (seed {})",
-        options.calls, options.seed
-    ))))
+    let line = format!("{} calls agree ({})", plan.calls, plan.name());
+    Ok(verdict(Ok(line)))
 }
 
 fn exhaustive(path: &str, words: &[String]) -> Result<ExitCode, String> {
-    let program = options(words, &["--under"])?.program(path);
-    let outcome = compare::exhaustive(&program);
+    let options = options(words, &["--kinds", "--under"])?;
+    let outcome = compare::exhaustive(&options.program(path), &options.kinds);
     Ok(verdict(
         outcome.map(|count| format!("{count} calls agree (exhaustive)")),
     ))
 }
 
 fn stops(path: &str, words: &[String]) -> Result<ExitCode, String> {
-    let program = options(words, &["--under"])?.program(path);
-    let outcome = stops::try_all(&program);
+    let options = options(words, &["--kinds", "--under"])?;
+    let outcome = stops::try_all(&options.program(path), &options.kinds);
     Ok(verdict(outcome.map(|count| format!("{count} stops agree"))))
 }
 

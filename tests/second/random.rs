@@ -19,6 +19,16 @@ impl Random {
         random
     }
 
+    /// The seed of a chunk of a long run: the number, counted from 0, that the generator gives from
+    /// the run's seed. It gives none twice before it has given all, so no two chunks have one seed.
+    pub fn seed_of_chunk(seed: u64, chunk: u64) -> u64 {
+        let mut random = Random::new(seed);
+        for _ in 0..chunk {
+            random.next();
+        }
+        random.next()
+    }
+
     pub fn next(&mut self) -> u64 {
         self.state = self.state.wrapping_add(0x9E37_79B9_7F4A_7C15);
         let mut mixed = self.state;

@@ -40,34 +40,42 @@ fn answer_bytes(call: &Call) -> Vec<u8> {
     bytes
 }
 
-/// The good calls put around a stop: one of each kind.
-fn good_calls() -> Vec<Call> {
-    TABLE.iter().copied().map(good_call).collect()
-}
-
 fn good_call(kind: &Kind) -> Call {
     (kind.stored)().swap_remove(0)
 }
 
-fn stop(name: String, around: Around, stopping: &[u8]) -> Stop {
-    let mut stop = Stop {
-        name,
-        input: Vec::new(),
-        expected: Vec::new(),
-    };
-    if !matches!(around, Around::Alone) {
-        for call in good_calls() {
-            stop.input.extend(call_bytes(&call));
-            stop.expected.extend(answer_bytes(&call));
-        }
+/// The stops made so far, for a program that has these kinds.
+struct Stops<'kinds> {
+    kinds: &'kinds [&'static Kind],
+    made: Vec<Stop>,
+}
+
+impl Stops<'_> {
+    /// The good calls put around a stop: one of each kind that the program has.
+    fn good_calls(&self) -> Vec<Call> {
+        self.kinds.iter().copied().map(good_call).collect()
     }
-    stop.input.extend_from_slice(stopping);
-    if matches!(around, Around::BeforeAndBehind) {
-        for call in good_calls() {
-            stop.input.extend(call_bytes(&call));
+
+    fn add(&mut self, name: String, around: Around, stopping: &[u8]) {
+        let mut stop = Stop {
+            name,
+            input: Vec::new(),
+            expected: Vec::new(),
+        };
+        if !matches!(around, Around::Alone) {
+            for call in self.good_calls() {
+                stop.input.extend(call_bytes(&call));
+                stop.expected.extend(answer_bytes(&call));
+            }
         }
+        stop.input.extend_from_slice(stopping);
+        if matches!(around, Around::BeforeAndBehind) {
+            for call in self.good_calls() {
+                stop.input.extend(call_bytes(&call));
+            }
+        }
+        self.made.push(stop);
     }
-    stop
 }
 
 /// A call's bytes with one number of its header replaced.
@@ -78,9 +86,9 @@ fn with_number(call: &Call, place: usize, number: u32) -> Vec<u8> {
 }
 
 /// Unknown kinds, also such as are known ones when only some bytes of the number are looked at.
-fn unknown_kinds(stops: &mut Vec<Stop>) {
+fn unknown_kinds(stops: &mut Stops) {
     let mut kinds = vec![0, LAST_KIND + 1, 99, 0xFFFF_FFFF];
-    for kind in TABLE.iter().copied() {
+    for kind in stops.kinds {
         kinds.extend([
             kind.number + 0x100,
             kind.number + 0x1_0000,
@@ -90,8 +98,21 @@ fn unknown_kinds(stops: &mut Vec<Stop>) {
     }
     for kind in kinds {
         for around in [Around::Alone, Around::Before, Around::BeforeAndBehind] {
-            let call = with_number(&good_call(TABLE[0]), 0, kind);
-            stops.push(stop(format!("unknown kind {kind:X}"), around, &call));
+            let call = with_number(&good_call(stops.kinds[0]), 0, kind);
+            stops.add(format!("unknown kind {kind:X}"), around, &call);
+        }
+    }
+}
+
+/// Good calls of the kinds that the program has not.
+fn other_kinds(stops: &mut Stops) {
+    for kind in TABLE.iter().copied() {
+        if stops.kinds.iter().any(|known| known.number == kind.number) {
+            continue;
+        }
+        for around in [Around::Alone, Around::Before, Around::BeforeAndBehind] {
+            let title = format!("{}, which the program has not", kind.name);
+            stops.add(title, around, &call_bytes(&good_call(kind)));
         }
     }
 }
@@ -118,29 +139,29 @@ fn bounds_of(shape: &Shape) -> [(&'static str, usize, u32); 3] {
     ]
 }
 
-fn broken_bounds(stops: &mut Vec<Stop>) {
-    for kind in TABLE.iter().copied() {
+fn broken_bounds(stops: &mut Stops) {
+    for kind in stops.kinds {
         for (name, place, bound) in bounds_of(&kind.shape) {
             let title = format!("{} with {name} {}", kind.name, bound + 1);
             let bytes = one_over(kind, place, bound);
-            stops.push(stop(title, Around::BeforeAndBehind, &bytes));
+            stops.add(title, Around::BeforeAndBehind, &bytes);
             // The last three are small again when multiplied by four in 32 bits, or negative.
             for number in [bound * 2 + 2, 0x4000_0001, 0x8000_0000, 0xFFFF_FFFF] {
                 let title = format!("{} with {name} {number:X}", kind.name);
                 let bytes = with_number(&good_call(kind), place, number);
-                stops.push(stop(title, Around::BeforeAndBehind, &bytes));
+                stops.add(title, Around::BeforeAndBehind, &bytes);
             }
         }
         for call in (kind.forbidden)() {
             let title = format!("{} against its own bounds {:X?}", kind.name, call.header());
-            stops.push(stop(title, Around::BeforeAndBehind, &call_bytes(&call)));
+            stops.add(title, Around::BeforeAndBehind, &call_bytes(&call));
         }
     }
 }
 
 /// A good call cut at every byte, in its header and in its elements.
-fn cut_calls(stops: &mut Vec<Stop>) {
-    for (index, kind) in TABLE.iter().copied().enumerate() {
+fn cut_calls(stops: &mut Stops) {
+    for (index, kind) in stops.kinds.iter().enumerate() {
         let bytes = call_bytes(&good_call(kind));
         for length in 1..bytes.len() {
             let part = if length < CALL_HEADER {
@@ -151,17 +172,17 @@ fn cut_calls(stops: &mut Vec<Stop>) {
             let title = format!("{} cut in its {part}, {length} bytes", kind.name);
             // Alone for one kind suffices: before the kind is read all headers are alike.
             if index == 0 {
-                stops.push(stop(title.clone(), Around::Alone, &bytes[..length]));
+                stops.add(title.clone(), Around::Alone, &bytes[..length]);
             }
-            stops.push(stop(title, Around::Before, &bytes[..length]));
+            stops.add(title, Around::Before, &bytes[..length]);
         }
     }
 }
 
 /// Long calls without their last byte: also one that would be refused has to be there whole.
-fn long_cut_calls(stops: &mut Vec<Stop>) {
+fn long_cut_calls(stops: &mut Stops) {
     let with_elements = |kind: &&Kind| !good_call(kind).a.is_empty();
-    for kind in TABLE.iter().copied().filter(with_elements) {
+    for kind in stops.kinds.iter().copied().filter(with_elements) {
         for length in [8, 16_384, 16_385, kind.shape.most_of_a()] {
             let bytes = call_bytes(&long_call(kind, length));
             for missing in [1, 4, 5] {
@@ -169,7 +190,7 @@ fn long_cut_calls(stops: &mut Vec<Stop>) {
                     "{} of {length} elements but for the last {missing} bytes",
                     kind.name
                 );
-                stops.push(stop(title, Around::Before, &bytes[..bytes.len() - missing]));
+                stops.add(title, Around::Before, &bytes[..bytes.len() - missing]);
             }
         }
     }
@@ -187,15 +208,18 @@ fn long_call(kind: &Kind, length: u32) -> Call {
     }
 }
 
-fn all_stops() -> Vec<Stop> {
-    let mut stops = vec![stop("no input".to_string(), Around::Alone, &[])];
+fn all_stops(kinds: &[&'static Kind]) -> Vec<Stop> {
+    let made = Vec::new();
+    let mut stops = Stops { kinds, made };
+    stops.add("no input".to_string(), Around::Alone, &[]);
     // Not a stop but the end of the input: without it the others would show little.
-    stops.push(stop("good calls only".to_string(), Around::Before, &[]));
+    stops.add("good calls only".to_string(), Around::Before, &[]);
     unknown_kinds(&mut stops);
+    other_kinds(&mut stops);
     broken_bounds(&mut stops);
     cut_calls(&mut stops);
     long_cut_calls(&mut stops);
-    stops
+    stops.made
 }
 
 /// None where the program answered what it had to and ended. Its status is its own affair,
@@ -220,9 +244,10 @@ fn trouble_with(program: &Program, stop: &Stop) -> Option<String> {
     }
 }
 
-/// Tries all stops. Gives their number, or reports on at most five that went wrong.
-pub fn try_all(program: &Program) -> Result<usize, Vec<String>> {
-    let stops = all_stops();
+/// Tries all stops of a program that has these kinds. Gives their number, or reports on at most five
+/// that went wrong.
+pub fn try_all(program: &Program, kinds: &[&'static Kind]) -> Result<usize, Vec<String>> {
+    let stops = all_stops(kinds);
     let mut reports = Vec::new();
     for stop in &stops {
         if let Some(trouble) = trouble_with(program, stop) {
