@@ -8,7 +8,6 @@ use answers::Refusal;
 use utf8::read::Counted;
 use utf8::read::Read;
 use utf8::read::Taken;
-use utf8::write;
 ghost use mathlib.Core.Path.{_≡_};
 ghost use Prim.Native.Nat.{_+_, _-_, _≤_, _<_};
 ghost use lib.ListN.{length};
@@ -52,7 +51,7 @@ fn place(out: &mut [u8], s: At, taken: Taken) -> At
     requires { ⌜ Fits (now out) s taken ⌝ }
     ensures { λ r. ⌜ Placed (now (out .entry)) s taken r (now (out .exit)) ⌝ }
 {
-    let written = write::put_at(taken.code, out, s.written);
+    let written = utf8_write::put_at(taken.code, out, s.written);
     At {
         read: s.read + taken.size,
         written,
@@ -118,7 +117,7 @@ fn count_place(s: Count, taken: Taken) -> Count
 {
     Count {
         read: s.read + taken.size,
-        length: s.length + write::size_of(taken.code),
+        length: s.length + utf8_write::size_of(taken.code),
     }
 }
 

@@ -63,7 +63,7 @@ pub fn utf8(
     if count == 0 {
         return put::spoilt(answer);
     }
-    let read = utf8::read::read_text(&bytes[..count], made);
+    let read = utf8_read::read_text(&bytes[..count], made);
     match read {
         Read::Done(counted) => put::codes(made, counted.length, answer, 0),
         Read::Refused(refusal) => put::refusal(refusal, answer, 0),
