@@ -1,13 +1,13 @@
--- `joining::text::put` meets its contract: none, one or two are written.
+-- `joining_text::put` meets its contract: none, one or two are written.
 -- Assumes nothing.
 use Rattle.joining.specs.Steps.{emitted}
 use Rattle.laws.proofs.Filling.{room-one, room-pair, wrote-none, wrote-one, wrote-pair}
 use native.Mathlib.Omega.{arith}
 use lib.ListN.{length-set}
 use mathlib.Core.Path.{ap}
 use borrow.Author.Needs.{needs}
-use Rattle.joining.proofs.text.put.Statement.{statement}
-use Rattle.joining.proofs.text.put.Tie as tie
+use Rattle.joining_text.proofs.put.Statement.{statement}
+use Rattle.joining_text.proofs.put.Tie as tie
 
 enum-told : tie.Need-enum-told
 enum-told c = search needs

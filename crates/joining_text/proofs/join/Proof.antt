@@ -1,10 +1,10 @@
--- `joining::text::join` meets its contract: the checks refuse, or the text has passed them.
+-- `joining_text::join` meets its contract: the checks refuse, or the text has passed them.
 -- Assumes nothing.
 use Rattle.joining.specs.Joining.{join}
 use Rattle.answers.proofs.Verdicts.{checks-passed, makes-refused}
 use borrow.Author.Needs.{needs}
-use Rattle.joining.proofs.text.join.Statement.{statement}
-use Rattle.joining.proofs.text.join.Tie as tie
+use Rattle.joining_text.proofs.join.Statement.{statement}
+use Rattle.joining_text.proofs.join.Tie as tie
 
 check-text-requires : tie.Need-check-text-requires
 check-text-requires c κs = search needs

@@ -1,18 +1,18 @@
 // Joining a text of code points into a lent buffer (document 01, 'Syllables').
-// Not here: the step (joiner).
-use crate::joiner::Emitted;
-use crate::joiner::Joiner;
+// Not here: the definitions, and the joiner's step (crate joining).
 use answers::Checked;
 use answers::Filled;
 use answers::Refusal;
+use joining::joiner::Emitted;
+use joining::joiner::Joiner;
 ghost use mathlib.Core.Path.{_≡_};
 ghost use Prim.Native.Nat.{_≤_};
 ghost use lib.ListN.{length};
 ghost use Rattle.laws.specs.Writing.{Room, Wrote, Fronts};
 ghost use Rattle.answers.specs.Checks.{lacking, passes, takesText};
 ghost use Rattle.answers.specs.Answers.{Makes};
 ghost use Rattle.joining.specs.Joining.{join};
 ghost use Rattle.joining.specs.Steps.{emitted};
 
 // How many code points a step wrote.
 fn count_of(out: Emitted) -> usize

@@ -1,11 +1,11 @@
--- `joining::text::join_checked` meets its contract: it finds what is lacking, and refuses 3 or writes.
+-- `joining_text::join_checked` meets its contract: it finds what is lacking, and refuses 3 or writes.
 -- Assumes nothing.
 use Rattle.joining.specs.Joining.{join}
 use Rattle.answers.proofs.Verdicts.{makes-lacking, makes-done}
 use Rattle.answers.proofs.Checks.{text-short, lacking-room}
 use borrow.Author.Needs.{needs}
-use Rattle.joining.proofs.text.join_checked.Statement.{statement}
-use Rattle.joining.proofs.text.join_checked.Tie as tie
+use Rattle.joining_text.proofs.join_checked.Statement.{statement}
+use Rattle.joining_text.proofs.join_checked.Tie as tie
 
 join-lacking-requires : tie.Need-join-lacking-requires
 join-lacking-requires c κs = text-short _ (c .before .before .pre)

@@ -1,15 +1,15 @@
--- `joining::text::write_joined` meets its contract. The loop's invariant: what is written and what is still to come make up the whole.
+-- `joining_text::write_joined` meets its contract. The loop's invariant: what is written and what is still to come make up the whole.
 -- Assumes nothing.
 use Rattle.joining.proofs.Stepping.{join-begin, join-piece, join-last}
 use mathlib.Core.Path.{_∙_}
 use Rattle.laws.proofs.Filling.{Filling, filling-begin, filling-length, filling-room, filling-more, filling-last}
 use Prim.Native.Nat.{_≤_, _-_}
 use lib.ListN.{length, drop}
 use Rattle.laws.specs.Machines.{from}
 use Rattle.joining.specs.Joining.{join, joiner as machine}
 use borrow.Author.Needs.{needs}
-use Rattle.joining.proofs.text.write_joined.Statement.{statement}
-use Rattle.joining.proofs.text.write_joined.Tie as tie
+use Rattle.joining_text.proofs.write_joined.Statement.{statement}
+use Rattle.joining_text.proofs.write_joined.Tie as tie
 
 abbrev Inv-loop : tie.InvT-loop
 Inv-loop text out₀ joiner₀ at₀ read₀ out joiner at read =

@@ -1,11 +1,11 @@
--- `joining::text::join_lacking` meets its contract: as much as the text has does, or the length is counted.
+-- `joining_text::join_lacking` meets its contract: as much as the text has does, or the length is counted.
 -- Assumes nothing.
 use Rattle.joining.proofs.Joins.{join-most}
 use Rattle.answers.proofs.Checks.{lacking-none, lacking-counted}
 use native.Mathlib.Omega.{arith}
 use borrow.Author.Needs.{needs}
-use Rattle.joining.proofs.text.join_lacking.Statement.{statement}
-use Rattle.joining.proofs.text.join_lacking.Tie as tie
+use Rattle.joining_text.proofs.join_lacking.Statement.{statement}
+use Rattle.joining_text.proofs.join_lacking.Tie as tie
 
 returns : tie.Need-returns
 returns c = lacking-none _ _ (omega (arith, join-most (c .before .before .args .text .now), c .if1 .taken))

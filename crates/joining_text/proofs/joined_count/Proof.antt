@@ -1,16 +1,16 @@
--- `joining::text::joined_count` meets its contract. The loop's invariant: what is counted and what is still to come make up the whole.
+-- `joining_text::joined_count` meets its contract. The loop's invariant: what is counted and what is still to come make up the whole.
 -- Assumes nothing.
 use Rattle.joining.proofs.Stepping.{join-begin, join-piece, join-last}
 use Rattle.joining.proofs.Joins.{join-most}
 use native.Mathlib.Omega.{arith}
 use Rattle.laws.proofs.Filling.{Counting, counting-begin, counting-fits, counting-more, counting-last}
 use Prim.Native.Nat.{_≤_, _-_}
 use lib.ListN.{length, drop}
 use Rattle.laws.specs.Machines.{from}
 use Rattle.joining.specs.Joining.{join, joiner as machine}
 use borrow.Author.Needs.{needs}
-use Rattle.joining.proofs.text.joined_count.Statement.{statement}
-use Rattle.joining.proofs.text.joined_count.Tie as tie
+use Rattle.joining_text.proofs.joined_count.Statement.{statement}
+use Rattle.joining_text.proofs.joined_count.Tie as tie
 
 abbrev Inv-loop : tie.InvT-loop
 Inv-loop text joiner₀ count₀ i₀ joiner count i =
