@@ -1,11 +1,11 @@
--- `letters::apart::full_parts_checked` meets its contract: it finds what is lacking, and refuses 3 or writes.
+-- `letters_apart::full_parts_checked` meets its contract: it finds what is lacking, and refuses 3 or writes.
 -- Assumes nothing.
 use Rattle.letters.specs.Syllables.{fullParts}
 use Rattle.answers.proofs.Verdicts.{makes-lacking, makes-done}
 use Rattle.answers.proofs.Checks.{text-short, lacking-room}
 use borrow.Author.Needs.{needs}
-use Rattle.letters.proofs.apart.full_parts_checked.Statement.{statement}
-use Rattle.letters.proofs.apart.full_parts_checked.Tie as tie
+use Rattle.letters_apart.proofs.full_parts_checked.Statement.{statement}
+use Rattle.letters_apart.proofs.full_parts_checked.Tie as tie
 
 parts-lacking-requires : tie.Need-parts-lacking-requires
 parts-lacking-requires c κs = text-short _ (c .before .before .pre)

@@ -1,14 +1,14 @@
--- `letters::apart::write_parts` meets its contract. The loop's invariant: what is written and what is left make up the whole.
+-- `letters_apart::write_parts` meets its contract. The loop's invariant: what is written and what is left make up the whole.
 -- Assumes nothing.
 use Rattle.letters.proofs.Parts.{parts-piece, parts-end}
 use Rattle.letters.specs.Syllables.{partsOf, fullParts}
 use Rattle.laws.proofs.Filling.{Filling, filling-none, filling-length, filling-room, filling-more, filling-all}
 use Rattle.laws.specs.Lists.{each}
 use lib.ListN.{length, drop}
 use Prim.Native.Nat.{_≤_, _-_}
 use borrow.Author.Needs.{needs}
-use Rattle.letters.proofs.apart.write_parts.Statement.{statement}
-use Rattle.letters.proofs.apart.write_parts.Tie as tie
+use Rattle.letters_apart.proofs.write_parts.Statement.{statement}
+use Rattle.letters_apart.proofs.write_parts.Tie as tie
 
 abbrev Inv-loop : tie.InvT-loop
 Inv-loop text out₀ at₀ read₀ out at read = (read ≤ length text) × Filling (fullParts text) (each partsOf (drop read text)) out₀ out at

@@ -1,15 +1,15 @@
--- `letters::apart::parts_count` meets its contract. The loop's invariant: what is counted and what is left make up the whole.
+-- `letters_apart::parts_count` meets its contract. The loop's invariant: what is counted and what is left make up the whole.
 -- Assumes nothing.
 use Rattle.letters.proofs.Parts.{parts-piece, parts-end, full-most}
 use Rattle.letters.specs.Syllables.{partsOf, fullParts}
 use Rattle.laws.proofs.Filling.{Counting, counting-none, counting-fits, counting-more, counting-all}
 use Rattle.laws.specs.Lists.{each}
 use lib.ListN.{length, drop}
 use native.Mathlib.Omega.{arith}
 use Prim.Native.Nat.{_≤_, _-_}
 use borrow.Author.Needs.{needs}
-use Rattle.letters.proofs.apart.parts_count.Statement.{statement}
-use Rattle.letters.proofs.apart.parts_count.Tie as tie
+use Rattle.letters_apart.proofs.parts_count.Statement.{statement}
+use Rattle.letters_apart.proofs.parts_count.Tie as tie
 
 abbrev Inv-loop : tie.InvT-loop
 Inv-loop text count₀ i₀ count i = (i ≤ length text) × Counting (fullParts text) (each partsOf (drop i text)) count

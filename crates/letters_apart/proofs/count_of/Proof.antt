@@ -1,11 +1,11 @@
--- `letters::apart::count_of` meets its contract: each return knows whether the number is an LV, an LVT or no syllable.
+-- `letters_apart::count_of` meets its contract: each return knows whether the number is an LV, an LVT or no syllable.
 -- Assumes nothing.
 use Rattle.letters.proofs.Parts.{count-lv, count-lvt, count-other}
 use Rattle.letters.proofs.Steps.{syllable-below, syllable-above}
 use native.Mathlib.Omega.{arith}
 use borrow.Author.Needs.{needs}
-use Rattle.letters.proofs.apart.count_of.Statement.{statement}
-use Rattle.letters.proofs.apart.count_of.Tie as tie
+use Rattle.letters_apart.proofs.count_of.Statement.{statement}
+use Rattle.letters_apart.proofs.count_of.Tie as tie
 
 returns : tie.Need-returns
 returns c = count-lv _ (omega arith) (omega arith) (c .if3 .taken)

@@ -1,6 +1,6 @@
--- `letters::apart::take_apart`, which calls itself, meets its contract: at the depth 0 the code point itself, else its one part, or the parts of its two
+-- `letters_apart::take_apart`, which calls itself, meets its contract: at the depth 0 the code point itself, else its one part, or the parts of its two
 -- parts one behind the other. Assumes nothing.
 use Rattle.letters.proofs.Parts.{parts-some, parts-none, parts-one, parts-two}
 use Rattle.laws.proofs.Filling.{wrote-one, wrote-two, room-one, room-first, room-second}
 use native.Mathlib.Omega.{arith}
 use mathlib.Core.Path.{_∙_}
@@ -8,12 +8,12 @@ use borrow.Author.Needs.{needs}
 use Prim.Native.Nat.{ℕ, _<_}
 use borrow.Fn.Kinds.{In}
 use borrow.Fn.PlainCycle.{Measures, is, falls, and}
-use Rattle.letters.proofs.apart.take_apart.Reads as take-apart
-use Rattle.letters.proofs.apart.take_apart.Kinds as take-apart-kinds
-use Rattle.letters.proofs.apart.+take_apart.Lts-take_apart as take-apart-lts
+use Rattle.letters_apart.proofs.take_apart.Reads as take-apart
+use Rattle.letters_apart.proofs.take_apart.Kinds as take-apart-kinds
+use Rattle.letters_apart.proofs.+take_apart.Lts-take_apart as take-apart-lts
 use Rattle.letters.proofs.step.parts_of.Reads as parts-of-reads
-use Rattle.letters.proofs.apart.+take_apart.{statement}
-use Rattle.letters.proofs.apart.+take_apart.Tie.{close}
+use Rattle.letters_apart.proofs.+take_apart.{statement}
+use Rattle.letters_apart.proofs.+take_apart.Tie.{close}
 
 abbrev μ-take-apart : Measures 1 take-apart-kinds.ps ℕ
 μ-take-apart κs a = a .1 .1 .1 .0

@@ -1,17 +1,17 @@
 // The full parts of a text: each one-step part taken apart again, until nothing changes (document 01, 'Syllables').
-// Not here: one step alone (step).
-use crate::step;
-use crate::step::Parts;
+// Not here: the definitions, and one step alone (crate letters).
 use answers::Checked;
 use answers::Filled;
 use answers::Refusal;
+use letters::step;
+use letters::step::Parts;
 ghost use mathlib.Core.Path.{_≡_};
 ghost use Prim.Native.Nat.{_≤_};
 ghost use lib.ListN.{length};
 ghost use Rattle.laws.specs.Writing.{Room, Wrote, Fronts};
 ghost use Rattle.answers.specs.Checks.{lacking, passes, takesText};
 ghost use Rattle.answers.specs.Answers.{Makes};
 ghost use Rattle.letters.specs.Syllables.{partsTo, partsOf, fullParts};
 
 // Writes the parts of `code`, taken apart down to `depth`, from `at` on, and answers the index
 // behind them. It calls itself on each of two parts; the depth falls.

@@ -1,12 +1,12 @@
--- `letters::apart::parts_lacking` meets its contract: three for each code point do, or the length is counted.
+-- `letters_apart::parts_lacking` meets its contract: three for each code point do, or the length is counted.
 -- Assumes nothing.
 use Rattle.letters.proofs.Parts.{full-most}
 use Rattle.answers.proofs.Checks.{lacking-none, lacking-counted}
 use native.Mathlib.Omega.{arith}
 use mathlib.Core.Path.{sym, _∙_}
 use borrow.Author.Needs.{needs}
-use Rattle.letters.proofs.apart.parts_lacking.Statement.{statement}
-use Rattle.letters.proofs.apart.parts_lacking.Tie as tie
+use Rattle.letters_apart.proofs.parts_lacking.Statement.{statement}
+use Rattle.letters_apart.proofs.parts_lacking.Tie as tie
 
 mul-if1 : tie.Need-mul-if1
 mul-if1 c = search needs

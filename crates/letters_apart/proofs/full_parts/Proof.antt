@@ -1,10 +1,10 @@
--- `letters::apart::full_parts` meets its contract: the checks refuse, or the text has passed them.
+-- `letters_apart::full_parts` meets its contract: the checks refuse, or the text has passed them.
 -- Assumes nothing.
 use Rattle.letters.specs.Syllables.{fullParts}
 use Rattle.answers.proofs.Verdicts.{checks-passed, makes-refused}
 use borrow.Author.Needs.{needs}
-use Rattle.letters.proofs.apart.full_parts.Statement.{statement}
-use Rattle.letters.proofs.apart.full_parts.Tie as tie
+use Rattle.letters_apart.proofs.full_parts.Statement.{statement}
+use Rattle.letters_apart.proofs.full_parts.Tie as tie
 
 check-text-requires : tie.Need-check-text-requires
 check-text-requires c κs = search needs
