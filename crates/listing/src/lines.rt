@@ -1,10 +1,9 @@
 // Listing the characters of a text of bytes into a lent buffer (document 01, 'Programs').
-// Not here: what a character is (mending::character), its name (names::naming).
+// Not here: what a character is (mending::character), its name (crate names_naming).
 use answers::Checked;
 use answers::Filled;
 use answers::Refusal;
 use mending::character;
-use names::naming;
 ghost use mathlib.Core.Path.{_≡_};
 ghost use Prim.Native.Nat.{_≤_, _<_};
 ghost use lib.ListN.{length};
@@ -57,7 +56,7 @@ fn put_name(code: u32, out: &mut [u8], at: usize) -> usize
     requires { ⌜ Room (now out) at (nameOrNone code) ⌝ }
     ensures { λ r. ⌜ Wrote (now (out .entry)) at (nameOrNone code) r (now (out .exit)) ⌝ }
 {
-    let named = naming::name(code, &mut out[at..]);
+    let named = names_naming::name(code, &mut out[at..]);
     match named {
         Filled::Done(length) => at + length,
         Filled::Refused(refusal) => {
