@@ -20,5 +20,5 @@ pub fn write(text: &[u32], out: &mut [u8]) -> Reply {
 }
 
 pub fn mend(text: &[u8], out: &mut [u8]) -> Reply {
-    replied(mending::text::mend(text, out))
+    replied(mending_text::mend(text, out))
 }

@@ -33,7 +33,7 @@ fn refused(refusal: Refusal) -> Answer
 pub extern "C" fn pulphopper_mend(text: &[u8], out: &mut [u8]) -> Answer
     ensures { λ r. ⌜ Mends (now (text .entry)) (now (out .entry)) r (now (out .exit)) ⌝ }
 {
-    let answer = mending::text::mend(text, out);
+    let answer = mending_text::mend(text, out);
     match answer {
         Read::Done(counted) => Answer {
             refusal: 0,
