@@ -12,13 +12,13 @@ fn replied(answer: Read) -> Reply {
 }
 
 pub fn read(text: &[u8], out: &mut [u32]) -> Reply {
-    replied(utf8::read::read_text(text, out))
+    replied(utf8_read::read_text(text, out))
 }
 
 pub fn write(text: &[u32], out: &mut [u8]) -> Reply {
-    reply::filled(utf8::write::write_text(text, out))
+    reply::filled(utf8_write::write_text(text, out))
 }
 
 pub fn mend(text: &[u8], out: &mut [u8]) -> Reply {
-    replied(mending::text::mend(text, out))
+    replied(mending_text::mend(text, out))
 }

@@ -17,7 +17,7 @@ use Rattle.letters.proofs.Parts.{full-least, full-good}
 use Rattle.joining.specs.Joining.{join}
 use Rattle.joining.proofs.Joins.{join-parts}
 
--- JOINING THE PARTS IS JOINING THE TEXT, for any two results that the contract of `joining::text::join` admits
+-- JOINING THE PARTS IS JOINING THE TEXT, for any two results that the contract of `joining_text::join` admits
 pub parts-call : (text out : List ℕ) → All (λ c. bad c ≡ false) text → length (fullParts text) ≤ 16384 → {r s : Filled} {o p : List ℕ}
     → Makes join (fullParts text) out r o → Makes join text out s p → (r ≡ s) × (o ≡ p)
 parts-call text out good short f g =

@@ -1,5 +1,5 @@
 // The joiner: what is still open goes in by value and comes back (document 01, 'Syllables').
-// Every function takes every joiner and every number. Not here: a whole text (text).
+// Every function takes every joiner and every number. Not here: a whole text (crate joining_text).
 use crate::role;
 use crate::role::Role;
 ghost use mathlib.Core.Path.{_≡_};

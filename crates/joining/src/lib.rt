@@ -1,5 +1,4 @@
-// Joining letters into syllables (document 01, 'Syllables'): a step over values, and a whole text.
-// Not here: taking apart (crate letters), bytes (crate mending).
+// Joining letters into syllables (document 01, 'Syllables'): the definitions and laws, and a step over values.
+// Not here: joining a text (crate joining_text), taking apart (crate letters), bytes (crate mending).
 pub mod joiner;
 pub mod role;
-pub mod text;

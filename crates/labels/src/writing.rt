@@ -5,7 +5,6 @@ use crate::image;
 use crate::layout;
 use answers::Checked;
 use answers::Refusal;
-use mending::text;
 use utf8::read::Read;
 ghost use mathlib.Core.Path.{_≡_};
 ghost use mathlib.Core.List.{[], _∷_};
@@ -83,7 +82,7 @@ fn store_joined(image: &mut [u8], number: usize, object: u32, berth: u16, label:
     ensures { λ r. ⌜ Stores (now (image .entry)) number object berth (mended (now (label .entry))) r (now (image .exit)) ⌝ }
 {
     let mut joined = [0u8; 88];
-    let read = text::mend(label, &mut joined);
+    let read = mending_text::mend(label, &mut joined);
     match read {
         Read::Refused(_) => Checked::Refused(Refusal::BadLayout(8)),
         Read::Done(counted) => {

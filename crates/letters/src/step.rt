@@ -1,5 +1,5 @@
 // One step of taking a syllable apart (document 01, 'Syllables'): an LV into its initial and its peak, an LVT into its LV and its final.
-// Not here: the parts taken apart again (apart).
+// Not here: the parts taken apart again (crate letters_apart).
 use answers::Refusal;
 ghost use mathlib.Core.Path.{_≡_};
 ghost use mathlib.Core.List.{[], _∷_};

@@ -1,10 +1,8 @@
 // Listing the characters of a text of bytes into a lent buffer (document 01, 'Programs').
-// Not here: what a character is (mending::character), its name (names::naming).
+// Not here: what a character is (crate mending_character), its name (crate names_naming).
 use answers::Checked;
 use answers::Filled;
 use answers::Refusal;
-use mending::character;
-use names::naming;
 ghost use mathlib.Core.Path.{_≡_};
 ghost use Prim.Native.Nat.{_≤_, _<_};
 ghost use lib.ListN.{length};
@@ -57,7 +55,7 @@ fn put_name(code: u32, out: &mut [u8], at: usize) -> usize
     requires { ⌜ Room (now out) at (nameOrNone code) ⌝ }
     ensures { λ r. ⌜ Wrote (now (out .entry)) at (nameOrNone code) r (now (out .exit)) ⌝ }
 {
-    let named = naming::name(code, &mut out[at..]);
+    let named = names_naming::name(code, &mut out[at..]);
     match named {
         Filled::Done(length) => at + length,
         Filled::Refused(refusal) => {
@@ -88,7 +86,7 @@ fn list_into(text: &[u8], out: &mut [u8]) -> usize
     let mut read = 0;
     let mut written = 0;
     while read < text.len() {
-        let taken = character::character_at(text, read);
+        let taken = mending_character::character_at(text, read);
         written = put_line(taken.code, out, written);
         read += taken.size;
     }
@@ -104,7 +102,7 @@ fn listed_count(text: &[u8]) -> usize
     let mut read = 0;
     let mut length = 0;
     while read < text.len() {
-        let taken = character::character_at(text, read);
+        let taken = mending_character::character_at(text, read);
         length += put_line(taken.code, &mut line, 0);
         read += taken.size;
     }

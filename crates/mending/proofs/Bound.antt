@@ -31,7 +31,7 @@ use Rattle.utf8.specs.Utf8.{valueOf, bytesOf, utf8, readText}
 use Rattle.utf8.proofs.Forms.{full-good}
 use Rattle.utf8.proofs.Reading.{reading8, maximal-some}
 use Rattle.utf8.proofs.Writing.{long-three}
-use Rattle.utf8.proofs.Round.{full-bytes}
+use Rattle.utf8_round.proofs.Round.{full-bytes}
 use Rattle.mending.specs.Mending.{mended}
 
 -- what f gives of a code point is at most b for each byte of that code point, and of U+FFFD at most b, since that may stand for one byte

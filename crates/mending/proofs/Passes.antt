@@ -31,7 +31,7 @@ use Rattle.utf8.proofs.Rows.{row-between}
 use Rattle.utf8.proofs.Forms.{ends, goes, full-by}
 use Rattle.utf8.proofs.Writing.{bytes-three}
 use Rattle.utf8.proofs.Reading.{reading8}
-use Rattle.utf8.proofs.Round.{full-piece, full-bytes}
+use Rattle.utf8_round.proofs.Round.{full-piece, full-bytes}
 use Rattle.mending.specs.Characters.{grown, characterFrom}
 use Rattle.mending.specs.Steps.{Passes, Three, Low, wordOf}
 use Rattle.mending.proofs.Characters.{apart-ill, stops, Character, character-next}

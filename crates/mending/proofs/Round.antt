@@ -21,7 +21,7 @@ use Rattle.utf8.specs.Reading.{countedOf, Reads}
 use Rattle.utf8.specs.declared.read.Read.{Read}
 use Rattle.utf8.specs.declared.read.Read.the-variants.{Done}
 use Rattle.utf8.proofs.Reading.{read-good, reads-unique}
-use Rattle.utf8.proofs.Round.{read-write, ill-write, write-read}
+use Rattle.utf8_round.proofs.Round.{read-write, ill-write, write-read}
 use Rattle.mending.specs.Mending.{mended}
 
 -- ---- a mended text read

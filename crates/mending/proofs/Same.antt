@@ -17,7 +17,7 @@ use Rattle.utf8.specs.Utf8.{readText, writeText}
 use Rattle.utf8.specs.Reading.{Reads}
 use Rattle.utf8.specs.declared.read.Counted.{Counted}
 use Rattle.utf8.specs.declared.read.Read.the-variants.{Done}
-use Rattle.utf8.proofs.Round.{read-write}
+use Rattle.utf8_round.proofs.Round.{read-write}
 use Rattle.mending.specs.Mending.{mended, filled}
 use Rattle.mending.proofs.Damage.{done-filled}
 use Rattle.mending.proofs.Round.{mended-good}

@@ -30,7 +30,7 @@ use Rattle.utf8.specs.declared.read.Taken.{Taken}
 use Rattle.utf8.proofs.Takes.{behind}
 use Rattle.utf8.proofs.Writing.{bytes-three, long-three}
 use Rattle.utf8.proofs.Reading.{reading8}
-use Rattle.utf8.proofs.Round.{full-bytes, bytes-piece, bytes-value}
+use Rattle.utf8_round.proofs.Round.{full-bytes, bytes-piece, bytes-value}
 use Rattle.mending.specs.Characters.{meets, taking, grown, behindFirst, characterFrom}
 use Rattle.mending.specs.Steps.{tailOf, Tail, lastOf}
 use Rattle.mending.proofs.Characters.{apart-end, taken-code, taken-size, stops, behind-first}

@@ -23,8 +23,8 @@ use Rattle.utf8.proofs.Writing.{fitting-all}
 use Rattle.utf8.proofs.Reading.{read-most, ills-most}
 use Rattle.mending.specs.Mending.{mended}
 use Rattle.mending.specs.Steps.{Goes, Passes, Copies, Ready, Moved, Fits, Placed, CountReady, CountMoved, CountFits, CountPlaced}
-use Rattle.mending.specs.declared.text.At.{At}
-use Rattle.mending.specs.declared.text.Count.{Count}
+use Rattle.mending.specs.declared.progress.At.{At}
+use Rattle.mending.specs.declared.progress.Count.{Count}
 use Rattle.mending.proofs.Characters.{Character}
 
 -- ---- copying

@@ -17,8 +17,8 @@ use Rattle.utf8.specs.Utf8.{bytesOf, illText}
 use Rattle.utf8.specs.Reading.{goodOf, takenFrom}
 use Rattle.utf8.specs.declared.read.Taken.{Taken}
 use Rattle.mending.specs.Mending.{mended}
-use Rattle.mending.specs.declared.text.At.{At}
-use Rattle.mending.specs.declared.text.Count.{Count}
+use Rattle.mending.specs.declared.progress.At.{At}
+use Rattle.mending.specs.declared.progress.Count.{Count}
 
 -- ---- a part of a text
 

@@ -1,7 +1,3 @@
-// Crate mending: bytes read, joined and written as UTF-8 in one pass (document 01, 'Bytes').
-// Not here: reading and writing by themselves (crate utf8), which two join (crate joining).
-pub mod character;
-pub mod passing;
-pub mod quick;
-pub mod spelled;
-pub mod text;
+// Mending: bytes read, joined and written as UTF-8 in one pass (document 01, 'Bytes'): the definitions and laws, and how far a loop has come.
+// Not here: the call (crate mending_text) and what it is made of (mending_passing, mending_character, mending_spelled, mending_quick).
+pub mod progress;

@@ -35,10 +35,10 @@ use Rattle.letters.proofs.Steps.{syllable, syllable-yes, syllable-least, syllab
 use Rattle.letters.proofs.Steps.{initial-determined, peak-determined, final-determined}
 use Rattle.names.specs.Names.{nameBy, nameOf, namedFrom, named}
 use Rattle.names.specs.Naming.{noSyllable, Names, noName, syllableOr, namedAs, ReadsName, FoundIs}
-use Rattle.names.specs.declared.reading.Found.{Found}
-use Rattle.names.specs.declared.reading.Found.the-variants.{At, Nothing}
-use Rattle.names.specs.declared.reading.Named.{Named}
-use Rattle.names.specs.declared.reading.Named.the-variants.{Syllable, Refused}
+use Rattle.names.specs.declared.named.Found.{Found}
+use Rattle.names.specs.declared.named.Found.the-variants.{At, Nothing}
+use Rattle.names.specs.declared.named.Named.{Named}
+use Rattle.names.specs.declared.named.Named.the-variants.{Syllable, Refused}
 use Rattle.names.proofs.Unique.{names-differ}
 use Rattle.names.proofs.Lengths.{syllable-name-most}
 use Rattle.names.proofs.Writing.{no-syllable-refuses, no-syllable-passes}

@@ -23,7 +23,7 @@ use Rattle.letters.specs.Syllables.{isSyllable}
 use Rattle.names.specs.Names.{initials, peaks, finals, prefix, nameBy}
 use Rattle.names.specs.Naming.{noSyllable, Names, NamesBy, indicesOf, stringOf, Spells, spelledOut}
 use Rattle.names.specs.declared.strings.Part.{Part}
-use Rattle.names.specs.declared.naming.Indices.{Indices}
+use Rattle.names.specs.declared.named.Indices.{Indices}
 use Rattle.names.proofs.Rows.{string-size, spells-size}
 
 -- ---- a string by value, by its length

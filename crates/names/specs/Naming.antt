@@ -14,11 +14,11 @@ use Rattle.answers.specs.declared.Filled.{Filled}
 use Rattle.letters.specs.Syllables.{isSyllable, initialOf, peakOf, finalOf}
 use Rattle.names.specs.Names.{initials, peaks, finals, prefix, nameBy, nameOf, named}
 use Rattle.names.specs.declared.strings.Part.{Part}
-use Rattle.names.specs.declared.naming.Indices.{Indices}
-use Rattle.names.specs.declared.reading.Found.{Found}
-use Rattle.names.specs.declared.reading.Found.the-variants.{At, Nothing}
-use Rattle.names.specs.declared.reading.Named.{Named}
-use Rattle.names.specs.declared.reading.Named.the-variants.{Syllable, Refused}
+use Rattle.names.specs.declared.named.Indices.{Indices}
+use Rattle.names.specs.declared.named.Found.{Found}
+use Rattle.names.specs.declared.named.Found.the-variants.{At, Nothing}
+use Rattle.names.specs.declared.named.Named.{Named}
+use Rattle.names.specs.declared.named.Named.the-variants.{Syllable, Refused}
 
 -- ---- naming
 

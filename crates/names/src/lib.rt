@@ -1,5 +1,4 @@
-// Crate names: naming a syllable and reading a name (document 01, 'Names').
-// Not here: taking a syllable apart (crate letters).
-pub mod naming;
-pub mod reading;
+// Names of syllables (document 01, 'Names'): the definitions and laws, the strings of names, and what is answered.
+// Not here: naming (crate names_naming), reading a name (crate names_reading), taking a syllable apart (crate letters).
+pub mod named;
 pub mod strings;

@@ -1,5 +1,5 @@
 // The strings of names: three constant tables, and one row of such a table (document 01, 'Names').
-// Not here: what is done with a string (naming, reading).
+// Not here: what is done with a string (crates names_naming and names_reading).
 ghost use mathlib.Core.Path.{_≡_};
 ghost use mathlib.Core.List.{[]};
 ghost use lib.ListN.{length, getD};
@@ -26,7 +26,7 @@ pub struct Part {
 
 // The table of the initials' strings. A search takes it once and lends it on, since each use of the
 // constant puts the whole table on the stack.
-pub(crate) fn initial_rows() -> [u8; 76]
+pub fn initial_rows() -> [u8; 76]
     ensures { λ r. ⌜ 76 ≡ length r ⌝ }
     ensures { λ r. ⌜ Rows r initials ⌝ }
 {
@@ -34,7 +34,7 @@ pub(crate) fn initial_rows() -> [u8; 76]
 }
 
 // The peaks'.
-pub(crate) fn peak_rows() -> [u8; 84]
+pub fn peak_rows() -> [u8; 84]
     ensures { λ r. ⌜ 84 ≡ length r ⌝ }
     ensures { λ r. ⌜ Rows r peaks ⌝ }
 {
@@ -42,7 +42,7 @@ pub(crate) fn peak_rows() -> [u8; 84]
 }
 
 // The finals'.
-pub(crate) fn final_rows() -> [u8; 112]
+pub fn final_rows() -> [u8; 112]
     ensures { λ r. ⌜ 112 ≡ length r ⌝ }
     ensures { λ r. ⌜ Rows r finals ⌝ }
 {
@@ -50,7 +50,7 @@ pub(crate) fn final_rows() -> [u8; 112]
 }
 
 // The string of one row; behind the last row there is an empty one.
-pub(crate) fn string_at(rows: &[u8], row: usize) -> Part
+pub fn string_at(rows: &[u8], row: usize) -> Part
     ensures { λ r. ⌜ r ≡ partAt (now (rows .entry)) row ⌝ }
 {
     if rows.len() / 4 <= row {
@@ -71,7 +71,7 @@ pub(crate) fn string_at(rows: &[u8], row: usize) -> Part
 }
 
 // The string of an initial by itself, for a call that needs no other.
-pub(crate) fn initial(row: usize) -> Part
+pub fn initial(row: usize) -> Part
     ensures { λ r. ⌜ Spells r (getD initials row []) ⌝ }
 {
     let rows = initial_rows();
@@ -79,7 +79,7 @@ pub(crate) fn initial(row: usize) -> Part
 }
 
 // Of a peak.
-pub(crate) fn peak(row: usize) -> Part
+pub fn peak(row: usize) -> Part
     ensures { λ r. ⌜ Spells r (getD peaks row []) ⌝ }
 {
     let rows = peak_rows();
@@ -87,7 +87,7 @@ pub(crate) fn peak(row: usize) -> Part
 }
 
 // Of a final.
-pub(crate) fn last(row: usize) -> Part
+pub fn last(row: usize) -> Part
     ensures { λ r. ⌜ Spells r (getD finals row []) ⌝ }
 {
     let rows = final_rows();

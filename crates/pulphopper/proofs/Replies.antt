@@ -17,8 +17,8 @@ use Rattle.utf8.specs.declared.read.Read.the-variants.{Done, Refused}
 use Rattle.mending.specs.Mending.{mended}
 use Rattle.mending.proofs.Damage.{done-few}
 use Rattle.names.specs.Naming.{Names, namedAs, ReadsName}
-use Rattle.names.specs.declared.reading.Named.{Named}
-use Rattle.names.specs.declared.reading.Named.the-variants.{Syllable, Refused as NamedRefused}
+use Rattle.names.specs.declared.named.Named.{Named}
+use Rattle.names.specs.declared.named.Named.the-variants.{Syllable, Refused as NamedRefused}
 use Rattle.ranking.specs.Ranking.{orderNumber, ranked, RanksBytes}
 use Rattle.ranking.specs.declared.order.Order.{Order}
 use Rattle.ranking.specs.declared.order.Ranked.{Ranked}

@@ -2,7 +2,7 @@
 // Only the answers' form is made here; the work is that of the crates below.
 use answers::Filled;
 use answers::Refusal;
-use names::reading::Named;
+use names::named::Named;
 use ranking::order;
 use ranking::order::Ranked;
 use utf8::read::Read;
@@ -33,7 +33,7 @@ fn refused(refusal: Refusal) -> Answer
 pub extern "C" fn pulphopper_mend(text: &[u8], out: &mut [u8]) -> Answer
     ensures { λ r. ⌜ Mends (now (text .entry)) (now (out .entry)) r (now (out .exit)) ⌝ }
 {
-    let answer = mending::text::mend(text, out);
+    let answer = mending_text::mend(text, out);
     match answer {
         Read::Done(counted) => Answer {
             refusal: 0,
@@ -49,7 +49,7 @@ pub extern "C" fn pulphopper_mend(text: &[u8], out: &mut [u8]) -> Answer
 pub extern "C" fn pulphopper_name(code: u32, out: &mut [u8]) -> Answer
     ensures { λ r. ⌜ NamesForC code (now (out .entry)) r (now (out .exit)) ⌝ }
 {
-    let answer = names::naming::name(code, out);
+    let answer = names_naming::name(code, out);
     match answer {
         Filled::Done(length) => Answer {
             refusal: 0,
@@ -65,7 +65,7 @@ pub extern "C" fn pulphopper_name(code: u32, out: &mut [u8]) -> Answer
 pub extern "C" fn pulphopper_read_name(name: &[u8]) -> Answer
     ensures { λ r. ⌜ ReadsNameForC (now (name .entry)) r ⌝ }
 {
-    let answer = names::reading::read_name(name);
+    let answer = names_reading::read_name(name);
     match answer {
         Named::Syllable(code) => Answer {
             refusal: 0,

@@ -29,7 +29,7 @@ use Rattle.utf8.specs.declared.read.Taken.{Taken}
 use Rattle.utf8.proofs.Rows.{row-between}
 use Rattle.utf8.proofs.Forms.{ends, full-by}
 use Rattle.utf8.proofs.Takes.{test-true, test-false}
-use Rattle.utf8.proofs.Round.{full-piece}
+use Rattle.utf8_round.proofs.Round.{full-piece}
 use Rattle.mending.specs.Characters.{characterFrom}
 use Rattle.mending.proofs.Characters.{apart-end, stops, Character, character-next}
 use Rattle.ranking.specs.Items.{isDigit}

@@ -7,7 +7,6 @@ use crate::step::At;
 use crate::step::Next;
 use crate::step::State;
 use answers::Checked;
-use mending::quick;
 ghost use mathlib.Core.Path.{_≡_};
 ghost use mathlib.Core.Bool.{true};
 ghost use Prim.Native.Nat.{_≤_};
@@ -78,7 +77,7 @@ fn next_at(text: &[u8], at: usize) -> Next
     requires { ⌜ at ≤ length (now text) ⌝ }
     ensures { λ r. ⌜ Begins mendedFrom (now (text .entry)) at r ⌝ }
 {
-    let taken = quick::character_at(text, at);
+    let taken = mending_quick::character_at(text, at);
     step::next_of(taken.code, taken.size)
 }
 

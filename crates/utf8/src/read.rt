@@ -1,18 +1,15 @@
-// Reading UTF-8: the code point that begins at an index, and a whole text (document 01, 'Bytes').
-// Not here: writing (write), joining what is read (crate mending).
-use answers::Checked;
+// Reading UTF-8: the code point that begins at an index, and the answers of calls that read (document 01, 'Bytes').
+// Not here: reading a whole text (crate utf8_read), writing (crate utf8_write), joining what is read (crate mending).
 use answers::Refusal;
 ghost use mathlib.Core.Path.{_≡_};
 ghost use mathlib.Core.Option.{some};
 ghost use mathlib.Core.List.{[], _∷_};
-ghost use Prim.Native.Nat.{_≤_, _<_};
-ghost use lib.ListN.{length, getD, drop};
+ghost use Prim.Native.Nat.{_≤_};
+ghost use lib.ListN.{getD, drop};
 ghost use Rattle.laws.specs.Ranges.{within};
 ghost use Rattle.laws.specs.Pieces.{pieces};
-ghost use Rattle.answers.specs.Checks.{lacking, passes, takesBytes};
-ghost use Rattle.utf8.specs.Table37.{_to_, continuation, kindOf, rowOf};
-ghost use Rattle.utf8.specs.Utf8.{readText};
-ghost use Rattle.utf8.specs.Reading.{takenFrom, goodOf, illOf, Begins, ReadFronts, Reads};
+ghost use Rattle.utf8.specs.Table37.{_to_, continuation, kindOf};
+ghost use Rattle.utf8.specs.Reading.{takenFrom, goodOf, illOf, Begins};
 
 // What begins at an index: the code point, how many bytes it takes, and 1 where they are an
 // ill-formed subpart, which reads as FFFD. Behind the end all three are 0.
@@ -148,78 +145,5 @@ pub fn read_at(text: &[u8], at: usize) -> Taken
         0xF1..=0xF3 => read_four(text, at, first, 0x80, 0xBF),
         0xF4 => read_four(text, at, first, 0x80, 0x8F),
         _ => ill(1),
-    }
-}
-
-// How many code points a text reads as.
-fn read_count(text: &[u8]) -> usize
-    requires { ⌜ length (now text) ≤ 16384 ⌝ }
-    ensures { λ r. ⌜ r ≡ length (readText (now (text .entry))) ⌝ }
-{
-    let mut count: usize = 0;
-    let mut at = 0;
-    while at < text.len() {
-        let taken = read_at(text, at);
-        at += taken.size;
-        count += 1;
-    }
-    count
-}
-
-// The length needed where `room` does not do, else 0. One for each byte always does, and then
-// nothing is counted.
-fn read_lacking(text: &[u8], room: usize) -> usize
-    requires { ⌜ length (now text) ≤ 16384 ⌝ }
-    ensures { λ r. ⌜ r ≡ lacking room (length (readText (now (text .entry)))) ⌝ }
-{
-    if text.len() <= room {
-        return 0;
-    }
-    let needed = read_count(text);
-    if room < needed {
-        return needed;
-    }
-    0
-}
-
-// Writes what a text reads as to the front of `out`, which has room for it.
-fn read_into(text: &[u8], out: &mut [u32]) -> Counted
-    requires { ⌜ length (now text) ≤ 16384 ⌝ }
-    requires { ⌜ length (readText (now text)) ≤ length (now out) ⌝ }
-    ensures { λ r. ⌜ ReadFronts readText (now (text .entry)) (now (out .entry)) r (now (out .exit)) ⌝ }
-{
-    let mut length: usize = 0;
-    let mut ills: usize = 0;
-    let mut read = 0;
-    while read < text.len() {
-        let taken = read_at(text, read);
-        out[length] = taken.code;
-        length += 1;
-        ills += taken.ill;
-        read += taken.size;
-    }
-    Counted { length, ills }
-}
-
-// A text that has passed its check: refusal 3 or done.
-fn read_checked(text: &[u8], out: &mut [u32]) -> Read
-    requires { ⌜ takesBytes (now text) ≡ passes ⌝ }
-    ensures { λ r. ⌜ Reads readText (now (text .entry)) (now (out .entry)) r (now (out .exit)) ⌝ }
-{
-    let needed = read_lacking(text, out.len());
-    if needed != 0 {
-        return Read::Refused(Refusal::NoRoom(needed));
-    }
-    Read::Done(read_into(text, out))
-}
-
-// Reads a text of bytes into a lent buffer: refusals 1 and 3.
-pub fn read_text(text: &[u8], out: &mut [u32]) -> Read
-    ensures { λ r. ⌜ Reads readText (now (text .entry)) (now (out .entry)) r (now (out .exit)) ⌝ }
-{
-    let checked = answers::check_bytes(text);
-    match checked {
-        Checked::Refused(refusal) => Read::Refused(refusal),
-        Checked::Passed => read_checked(text, out),
     }
 }

@@ -5,7 +5,7 @@ use crate::put;
 use answers::Filled;
 use letters::step::Parts;
 use letters::step::Stepped;
-use names::reading::Named;
+use names::named::Named;
 use utf8::read::Read;
 
 fn put_parts(parts: Parts, answer: &mut [u8]) -> usize {
@@ -36,7 +36,7 @@ pub fn name(operand: &[u8], codes: &mut [u32], bytes: &mut [u8], answer: &mut [u
     if count != 1 {
         return put::spoilt(answer);
     }
-    let filled = names::naming::name(codes[0], bytes);
+    let filled = names_naming::name(codes[0], bytes);
     match filled {
         Filled::Done(length) => put::front(bytes, length, answer),
         Filled::Refused(refusal) => put::refusal(refusal, answer, 0),
@@ -45,7 +45,7 @@ pub fn name(operand: &[u8], codes: &mut [u32], bytes: &mut [u8], answer: &mut [u
 
 // Any bytes are a name to be read, none too.
 pub fn read(name: &[u8], answer: &mut [u8]) -> usize {
-    let named = names::reading::read_name(name);
+    let named = names_reading::read_name(name);
     match named {
         Named::Syllable(code) => put::code(code, answer, 0),
         Named::Refused(refusal) => put::refusal(refusal, answer, 0),
@@ -63,7 +63,7 @@ pub fn utf8(
     if count == 0 {
         return put::spoilt(answer);
     }
-    let read = utf8::read::read_text(&bytes[..count], made);
+    let read = utf8_read::read_text(&bytes[..count], made);
     match read {
         Read::Done(counted) => put::codes(made, counted.length, answer, 0),
         Read::Refused(refusal) => put::refusal(refusal, answer, 0),

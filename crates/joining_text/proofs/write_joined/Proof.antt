@@ -1,0 +1,95 @@
+-- `joining_text::write_joined` meets its contract. The loop's invariant: what is written and what is still to come make up the whole.
+-- Assumes nothing.
+use Rattle.joining.proofs.Stepping.{join-begin, join-piece, join-last}
+use mathlib.Core.Path.{_∙_}
+use Rattle.laws.proofs.Filling.{Filling, filling-begin, filling-length, filling-room, filling-more, filling-last}
+use Prim.Native.Nat.{_≤_, _-_}
+use lib.ListN.{length, drop}
+use Rattle.laws.specs.Machines.{from}
+use Rattle.joining.specs.Joining.{join, joiner as machine}
+use borrow.Author.Needs.{needs}
+use Rattle.joining_text.proofs.write_joined.Statement.{statement}
+use Rattle.joining_text.proofs.write_joined.Tie as tie
+
+abbrev Inv-loop : tie.InvT-loop
+Inv-loop text out₀ joiner₀ at₀ read₀ out joiner at read =
+    (read ≤ length text) × Filling (join text) (from machine (joiner .state) (drop read text)) out₀ out at
+
+abbrev μ-loop : tie.MeasureT-loop
+μ-loop text out₀ joiner₀ at₀ read₀ out joiner at read = length text - read
+
+new-requires : tie.Need-new-requires Inv-loop μ-loop
+new-requires c κs = search needs
+
+loop-holds : tie.Need-loop-holds Inv-loop μ-loop
+loop-holds c = (search needs, filling-begin _ (join-begin (c .before .before .before .args .text .now) (c .new .ensures)))
+
+mul-step : tie.Need-mul-step Inv-loop μ-loop
+mul-step c = search needs
+
+shared-slice-read-step : tie.Need-shared-slice-read-step Inv-loop μ-loop
+shared-slice-read-step c = search needs
+
+step-requires : tie.Need-step-requires Inv-loop μ-loop
+step-requires c κs = search needs
+
+put-requires : tie.Need-put-requires Inv-loop μ-loop
+put-requires c κs =
+    filling-room (c .before .before .before .before .before .before .before .before .before .pre)
+    (c .before .before .before .before .before .loop .inv .1)
+    (join-piece _ _ _ (c .before .before .before .before .loop-test .taken) (c .before .before .step .ensures))
+
+add-read : tie.Need-add-read Inv-loop μ-loop
+add-read c = search needs
+
+loop-less : tie.Need-loop-less Inv-loop μ-loop
+loop-less c = search needs
+
+loop-again : tie.Need-loop-again Inv-loop μ-loop
+loop-again c = (
+  search needs,
+  filling-more (c .before .before .before .before .before .before .before .before .before .before .before .before .pre)
+      (c .before .before .before .before .before .before .before .before .loop .inv .1)
+      (join-piece _ _ _ (c .before .before .before .before .before .before .before .loop-test .taken)
+      (c .before .before .before .before .before .step .ensures)) (c .before .before .put .ensures),
+)
+
+flush-requires : tie.Need-flush-requires Inv-loop μ-loop
+flush-requires c κs = search needs
+
+put-requires-2 : tie.Need-put-requires-2 Inv-loop μ-loop
+put-requires-2 c κs =
+    filling-room (c .before .before .before .before .before .before .before .pre) (c .before .before .before .loop .inv .1)
+    (join-last _ _ _ (c .before .before .loop-test .left) (c .before .flush .ensures))
+
+same-length : tie.Need-same-length Inv-loop μ-loop
+same-length c =
+    c .before .before .put2 .kept .1 .0 ∙ filling-length (c .before .before .before .before .before .before .before .before .before .before .pre)
+    (c .before .before .before .before .before .before .loop .inv .1)
+
+returns : tie.Need-returns Inv-loop μ-loop
+returns c =
+    filling-last (c .before .before .before .before .before .before .before .before .before .before .pre)
+    (c .before .before .before .before .before .before .loop .inv .1)
+    (join-last _ _ _ (c .before .before .before .before .before .loop-test .left) (c .before .before .before .before .flush .ensures))
+    (c .before .before .put2 .ensures)
+
+pub write-joined-spec : {M : Type 1} → statement M
+write-joined-spec =
+    tie.close
+    (tie.spec
+    Inv-loop
+    μ-loop
+    new-requires
+    loop-holds
+    mul-step
+    shared-slice-read-step
+    step-requires
+    put-requires
+    add-read
+    loop-less
+    loop-again
+    flush-requires
+    put-requires-2
+    same-length
+    returns)

@@ -1,0 +1,40 @@
+-- `letters_apart::full_parts` meets its contract: the checks refuse, or the text has passed them.
+-- Assumes nothing.
+use Rattle.letters.specs.Syllables.{fullParts}
+use Rattle.answers.proofs.Verdicts.{checks-passed, makes-refused}
+use borrow.Author.Needs.{needs}
+use Rattle.letters_apart.proofs.full_parts.Statement.{statement}
+use Rattle.letters_apart.proofs.full_parts.Tie as tie
+
+check-text-requires : tie.Need-check-text-requires
+check-text-requires c κs = search needs
+
+enum-known-checked : tie.Need-enum-known-checked
+enum-known-checked c = search needs
+
+enum-told : tie.Need-enum-told
+enum-told c = search needs
+
+full-parts-checked-requires : tie.Need-full-parts-checked-requires
+full-parts-checked-requires c κs = checks-passed (c .before .before .before .check-text .ensures) (c .before .enum-told .given .1)
+
+returns : tie.Need-returns
+returns c = makes-refused fullParts (c .before .before .before .check-text .ensures) (c .before .checked .given .1)
+
+same-length : tie.Need-same-length
+same-length c = search needs
+
+returns-2 : tie.Need-returns-2
+returns-2 c = search needs
+
+pub full-parts-spec : {M : Type 1} → statement M
+full-parts-spec =
+    tie.close
+    (tie.spec
+    check-text-requires
+    enum-known-checked
+    enum-told
+    full-parts-checked-requires
+    returns
+    same-length
+    returns-2)

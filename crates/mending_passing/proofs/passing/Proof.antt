@@ -1,0 +1,38 @@
+-- `mending_passing::passing` meets its contract. The loop's invariant: what lies between the start and the index passes.
+-- Assumes nothing.
+use Prim.Native.Nat.{_-_, _≤_}
+use lib.ListN.{length}
+use Rattle.mending.specs.Steps.{Passes}
+use Rattle.mending.proofs.Passes.{passes-none, passes-on}
+use borrow.Author.Needs.{needs}
+use Rattle.mending_passing.proofs.passing.Statement.{statement}
+use Rattle.mending_passing.proofs.passing.Tie as tie
+
+abbrev Inv-loop : tie.InvT-loop
+Inv-loop text from at₀ at = from ≤ length text → Passes text from at
+
+abbrev μ-loop : tie.MeasureT-loop
+μ-loop text from at₀ at = length text - at
+
+loop-holds : tie.Need-loop-holds Inv-loop μ-loop
+loop-holds c = λ h. passes-none _ _ h
+
+run-requires : tie.Need-run-requires Inv-loop μ-loop
+run-requires c κs = search needs
+
+returns : tie.Need-returns Inv-loop μ-loop
+returns c = c .before .before .before .loop .inv
+
+loop-less : tie.Need-loop-less Inv-loop μ-loop
+loop-less c = search needs
+
+loop-again : tie.Need-loop-again Inv-loop μ-loop
+loop-again c = λ h. passes-on (c .before .before .before .loop .inv h) (c .before .run .ensures)
+
+returns-2 : tie.Need-returns-2 Inv-loop μ-loop
+returns-2 c = c .before .loop .inv
+
+pub passing-spec : {M : Type 1} → statement M
+passing-spec =
+    tie.close
+    (tie.spec Inv-loop μ-loop loop-holds run-requires returns loop-less loop-again returns-2)

@@ -1,0 +1,47 @@
+-- `mending_text::advance` meets its contract: what is spelled in letters is the character at the index, or one turn is left to `pass`.
+-- Assumes nothing.
+use Rattle.mending.proofs.Turns.{character-fits, character-moved}
+use Rattle.mending.proofs.Characters.{character-next}
+use native.Mathlib.Omega.{arith}
+use borrow.Author.Needs.{needs}
+use Rattle.mending_text.proofs.advance.Statement.{statement}
+use Rattle.mending_text.proofs.advance.Tie as tie
+
+spelled-at-requires : tie.Need-spelled-at-requires
+spelled-at-requires c κs = search needs
+
+pass-requires : tie.Need-pass-requires
+pass-requires c κs = c .before .before .before .before .before .before .pre
+
+same-length : tie.Need-same-length
+same-length c = search needs
+
+returns : tie.Need-returns
+returns c = c .before .before .pass .ensures
+
+place-requires : tie.Need-place-requires
+place-requires c κs =
+    character-fits (c .before .before .before .before .before .before .pre)
+    (character-next _ _ (c .before .before .before .before .before .before .pre .inside)
+    (c .before .before .before .spelled-at .ensures (c .before .if1 .left)))
+
+same-length-2 : tie.Need-same-length-2
+same-length-2 c = search needs
+
+returns-2 : tie.Need-returns-2
+returns-2 c =
+    character-moved (character-next _ _ (c .before .before .before .before .before .before .before .before .before .pre .inside)
+    (c .before .before .before .before .before .before .spelled-at .ensures (c .before .before .before .before .if1 .left)))
+    (c .before .before .place .ensures)
+
+pub advance-spec : {M : Type 1} → statement M
+advance-spec =
+    tie.close
+    (tie.spec
+    spelled-at-requires
+    pass-requires
+    same-length
+    returns
+    place-requires
+    same-length-2
+    returns-2)

@@ -1,0 +1,188 @@
+// Mending a text of bytes into a lent buffer, in one pass (document 01, 'Bytes').
+// Not here: the definitions (crate mending), what passes (mending_passing), what is made (mending_character, mending_spelled).
+use answers::Checked;
+use answers::Refusal;
+use mending::progress::At;
+use mending::progress::Count;
+use utf8::read::Counted;
+use utf8::read::Read;
+use utf8::read::Taken;
+ghost use mathlib.Core.Path.{_≡_};
+ghost use Prim.Native.Nat.{_+_, _-_, _≤_, _<_};
+ghost use lib.ListN.{length};
+ghost use Rattle.answers.specs.Checks.{lacking, passes, takesBytes};
+ghost use Rattle.utf8.specs.Reading.{ReadFronts, Reads};
+ghost use Rattle.mending.specs.Mending.{mended};
+ghost use Rattle.mending.specs.Steps.{Copies, Ready, Moved, Fits, Placed, CountReady, CountMoved, CountFits, CountPlaced};
+
+// Copies the bytes between two indices, and answers the index behind them in `out`.
+fn copy(text: &[u8], from: usize, to: usize, out: &mut [u8], at: usize) -> usize
+    requires { ⌜ from ≤ to ⌝ }
+    requires { ⌜ to ≤ length (now text) ⌝ }
+    requires { ⌜ at + (to - from) ≤ length (now out) ⌝ }
+    ensures { λ r. ⌜ Copies (now (text .entry)) from to (now (out .entry)) at r (now (out .exit)) ⌝ }
+{
+    let mut read = from;
+    let mut written = at;
+    while read < to {
+        out[written] = text[read];
+        read += 1;
+        written += 1;
+    }
+    written
+}
+
+// Writes a character.
+fn place(out: &mut [u8], s: At, taken: Taken) -> At
+    requires { ⌜ Fits (now out) s taken ⌝ }
+    ensures { λ r. ⌜ Placed (now (out .entry)) s taken r (now (out .exit)) ⌝ }
+{
+    let written = utf8_write::put_at(taken.code, out, s.written);
+    At {
+        read: s.read + taken.size,
+        written,
+        ills: s.ills + taken.ill,
+    }
+}
+
+// What passes, or else one character.
+fn pass(text: &[u8], out: &mut [u8], s: At) -> At
+    requires { ⌜ Ready (now text) (now out) s ⌝ }
+    ensures { λ r. ⌜ Moved (now (text .entry)) (now (out .entry)) s r (now (out .exit)) ⌝ }
+{
+    let read = s.read;
+    let end = mending_passing::passing(text, read);
+    if end == read {
+        let taken = mending_character::character_at(text, read);
+        return place(out, s, taken);
+    }
+    let written = copy(text, read, end, out, s.written);
+    At {
+        read: end,
+        written,
+        ills: s.ills,
+    }
+}
+
+// A syllable of letters, or else what comes.
+fn advance(text: &[u8], out: &mut [u8], s: At) -> At
+    requires { ⌜ Ready (now text) (now out) s ⌝ }
+    ensures { λ r. ⌜ Moved (now (text .entry)) (now (out .entry)) s r (now (out .exit)) ⌝ }
+{
+    let spelled = mending_spelled::spelled_at(text, s.read);
+    if spelled.size == 0 {
+        return pass(text, out, s);
+    }
+    place(out, s, spelled)
+}
+
+// Writes the mended text to the front of `out`, which has room for it.
+fn mend_into(text: &[u8], out: &mut [u8]) -> Counted
+    requires { ⌜ length (now text) ≤ 16384 ⌝ }
+    requires { ⌜ length (mended (now text)) ≤ length (now out) ⌝ }
+    ensures { λ r. ⌜ ReadFronts mended (now (text .entry)) (now (out .entry)) r (now (out .exit)) ⌝ }
+{
+    let mut s = At {
+        read: 0,
+        written: 0,
+        ills: 0,
+    };
+    while s.read < text.len() {
+        s = advance(text, out, s);
+    }
+    Counted {
+        length: s.written,
+        ills: s.ills,
+    }
+}
+
+// Counts a character.
+fn count_place(s: Count, taken: Taken) -> Count
+    requires { ⌜ CountFits s taken ⌝ }
+    ensures { λ r. ⌜ CountPlaced s taken r ⌝ }
+{
+    Count {
+        read: s.read + taken.size,
+        length: s.length + utf8_write::size_of(taken.code),
+    }
+}
+
+// Counts what passes, or else one character.
+fn count_pass(text: &[u8], s: Count) -> Count
+    requires { ⌜ CountReady (now text) s ⌝ }
+    ensures { λ r. ⌜ CountMoved (now (text .entry)) s r ⌝ }
+{
+    let read = s.read;
+    let end = mending_passing::passing(text, read);
+    if end == read {
+        let taken = mending_character::character_at(text, read);
+        return count_place(s, taken);
+    }
+    Count {
+        read: end,
+        length: s.length + (end - read),
+    }
+}
+
+// Counts a syllable of letters, or else what comes.
+fn count_advance(text: &[u8], s: Count) -> Count
+    requires { ⌜ CountReady (now text) s ⌝ }
+    ensures { λ r. ⌜ CountMoved (now (text .entry)) s r ⌝ }
+{
+    let spelled = mending_spelled::spelled_at(text, s.read);
+    if spelled.size == 0 {
+        return count_pass(text, s);
+    }
+    count_place(s, spelled)
+}
+
+// How long the mended text is.
+fn mended_count(text: &[u8]) -> usize
+    requires { ⌜ length (now text) ≤ 16384 ⌝ }
+    ensures { λ r. ⌜ r ≡ length (mended (now (text .entry))) ⌝ }
+{
+    let mut s = Count { read: 0, length: 0 };
+    while s.read < text.len() {
+        s = count_advance(text, s);
+    }
+    s.length
+}
+
+// The length needed where `room` does not do, else 0. Three for each byte always do, and then
+// nothing is counted.
+fn mend_lacking(text: &[u8], room: usize) -> usize
+    requires { ⌜ length (now text) ≤ 16384 ⌝ }
+    ensures { λ r. ⌜ r ≡ lacking room (length (mended (now (text .entry)))) ⌝ }
+{
+    if 3 * text.len() <= room {
+        return 0;
+    }
+    let needed = mended_count(text);
+    if room < needed {
+        return needed;
+    }
+    0
+}
+
+// A text that has passed its check: refusal 3 or done.
+fn mend_checked(text: &[u8], out: &mut [u8]) -> Read
+    requires { ⌜ takesBytes (now text) ≡ passes ⌝ }
+    ensures { λ r. ⌜ Reads mended (now (text .entry)) (now (out .entry)) r (now (out .exit)) ⌝ }
+{
+    let needed = mend_lacking(text, out.len());
+    if needed != 0 {
+        return Read::Refused(Refusal::NoRoom(needed));
+    }
+    Read::Done(mend_into(text, out))
+}
+
+// Mends a text of bytes into a lent buffer: refusals 1 and 3.
+pub fn mend(text: &[u8], out: &mut [u8]) -> Read
+    ensures { λ r. ⌜ Reads mended (now (text .entry)) (now (out .entry)) r (now (out .exit)) ⌝ }
+{
+    let checked = answers::check_bytes(text);
+    match checked {
+        Checked::Refused(refusal) => Read::Refused(refusal),
+        Checked::Passed => mend_checked(text, out),
+    }
+}

@@ -1,0 +1,40 @@
+-- `utf8_read::read_text` meets its contract: the check refuses, or the text has passed it.
+-- Assumes nothing.
+use Rattle.answers.proofs.Verdicts.{checks-passed}
+use Rattle.utf8.proofs.Reading.{reads-refused}
+use borrow.Author.Needs.{needs}
+use Rattle.utf8_read.proofs.read_text.Statement.{statement}
+use Rattle.utf8_read.proofs.read_text.Tie as tie
+
+check-bytes-requires : tie.Need-check-bytes-requires
+check-bytes-requires c κs = search needs
+
+enum-known-checked : tie.Need-enum-known-checked
+enum-known-checked c = search needs
+
+enum-told : tie.Need-enum-told
+enum-told c = search needs
+
+read-checked-requires : tie.Need-read-checked-requires
+read-checked-requires c κs = checks-passed (c .before .before .before .check-bytes .ensures) (c .before .enum-told .given .1)
+
+returns : tie.Need-returns
+returns c = reads-refused (c .before .before .before .check-bytes .ensures) (c .before .checked .given .1)
+
+same-length : tie.Need-same-length
+same-length c = search needs
+
+returns-2 : tie.Need-returns-2
+returns-2 c = search needs
+
+pub read-text-spec : {M : Type 1} → statement M
+read-text-spec =
+    tie.close
+    (tie.spec
+    check-bytes-requires
+    enum-known-checked
+    enum-told
+    read-checked-requires
+    returns
+    same-length
+    returns-2)

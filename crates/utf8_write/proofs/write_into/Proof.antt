@@ -1,0 +1,69 @@
+-- `utf8_write::write_into` meets its contract. The loop's invariant: what is written and what is left make up the whole.
+-- Assumes nothing.
+use Rattle.utf8.proofs.Writing.{write-piece, write-end, taken-most}
+use Rattle.utf8.specs.Utf8.{bytesOf, writeText}
+use Rattle.laws.proofs.Filling.{Filling, filling-none, filling-length, filling-room, filling-more, filling-all}
+use Rattle.laws.specs.Lists.{each}
+use lib.ListN.{length, drop}
+use Prim.Native.Nat.{_≤_, _-_}
+use borrow.Author.Needs.{needs}
+use Rattle.utf8_write.proofs.write_into.Statement.{statement}
+use Rattle.utf8_write.proofs.write_into.Tie as tie
+
+abbrev Inv-loop : tie.InvT-loop
+Inv-loop text out₀ at₀ read₀ out at read = (read ≤ length text) × Filling (writeText text) (each bytesOf (drop read text)) out₀ out at
+
+abbrev μ-loop : tie.MeasureT-loop
+μ-loop text out₀ at₀ read₀ out at read = length text - read
+
+loop-holds : tie.Need-loop-holds Inv-loop μ-loop
+loop-holds c = (search needs, filling-none _ _)
+
+mul-put : tie.Need-mul-put Inv-loop μ-loop
+mul-put c = search needs
+
+shared-slice-read-put : tie.Need-shared-slice-read-put Inv-loop μ-loop
+shared-slice-read-put c = search needs
+
+put-requires : tie.Need-put-requires Inv-loop μ-loop
+put-requires c κs = (
+  taken-most _ (c .before .before .before .before .before .before .pre .0) _ (c .before .before .loop-test .taken),
+  filling-room (c .before .before .before .before .before .before .pre .1) (c .before .before .before .loop .inv .1)
+      (write-piece _ _ (c .before .before .loop-test .taken)),
+)
+
+add-read : tie.Need-add-read Inv-loop μ-loop
+add-read c = search needs
+
+loop-less : tie.Need-loop-less Inv-loop μ-loop
+loop-less c = search needs
+
+loop-again : tie.Need-loop-again Inv-loop μ-loop
+loop-again c = (
+  search needs,
+  filling-more (c .before .before .before .before .before .before .before .before .before .pre .1)
+      (c .before .before .before .before .before .before .loop .inv .1)
+      (write-piece _ _ (c .before .before .before .before .before .loop-test .taken)) (c .before .before .put .ensures),
+)
+
+same-length : tie.Need-same-length Inv-loop μ-loop
+same-length c = filling-length (c .before .before .before .before .pre .1) (c .before .loop .inv .1)
+
+returns : tie.Need-returns Inv-loop μ-loop
+returns c = filling-all (c .before .loop .inv .1) (write-end _ _ (c .loop-test .left))
+
+pub write-into-spec : {M : Type 1} → statement M
+write-into-spec =
+    tie.close
+    (tie.spec
+    Inv-loop
+    μ-loop
+    loop-holds
+    mul-put
+    shared-slice-read-put
+    put-requires
+    add-read
+    loop-less
+    loop-again
+    same-length
+    returns)
