@@ -52,8 +52,8 @@ pub fn call(kind: u32, code: u32, text: &[u32], out: &mut [u32]) -> Reply {
         2 => stepped(letters::step::one_step(code)),
         3 => reply::filled(letters_apart::full_parts(text, out)),
         4 => reply::filled(joining_text::join(text, out)),
-        5 => reply::filled(clusters::simple::simple_form(text, out)),
-        6 => reply::filled(clusters::simple::gathered_form(text, out)),
+        5 => reply::filled(clusters_simple::simple_form(text, out)),
+        6 => reply::filled(clusters_gathered::gathered_form(text, out)),
         _ => reply::filled(fillers::groups::turn(text, out)),
     }
 }

@@ -4,13 +4,10 @@ use crate::heads::Head;
 use crate::reply;
 use crate::reply::Reply;
 use answers::Checked;
-use labels::image;
+use labels::image::Form;
 use labels::image::Found;
 use labels::image::Judged;
 use labels::layout;
-use labels::writing;
-use labels::writing::Form;
-use sorting::order;
 
 // A fresh record, copied to the front of what is lent, which has room for it.
 pub fn fresh(lent: &mut [u8]) -> Reply {
@@ -27,7 +24,7 @@ pub fn fresh(lent: &mut [u8]) -> Reply {
 }
 
 pub fn record(image: &[u8], number: usize, lent: &mut [u8]) -> Reply {
-    let answer = image::read_record(image, number, lent);
+    let answer = labels_image::read_record(image, number, lent);
     match answer {
         Found::Record(entry) => reply::found(entry.length, entry.object, entry.berth),
         Found::Refused(refusal) => reply::refused(refusal),
@@ -43,11 +40,11 @@ fn judged(answer: Judged) -> Reply {
 }
 
 pub fn image(bytes: &[u8]) -> Reply {
-    judged(image::read_image(bytes))
+    judged(labels_image::read_image(bytes))
 }
 
 pub fn order(bytes: &[u8], out: &mut [u32]) -> Reply {
-    judged(order::order(bytes, out))
+    judged(sorting_order::order(bytes, out))
 }
 
 fn form_of(number: u32) -> Form {
@@ -59,7 +56,7 @@ fn form_of(number: u32) -> Form {
 
 pub fn write(head: Head, image: &mut [u8], label: &[u8]) -> Reply {
     let berth = (head.z % 0x1_0000) as u16;
-    let answer = writing::write_record(
+    let answer = labels_writing::write_record(
         image,
         head.x as usize,
         head.y,

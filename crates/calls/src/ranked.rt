@@ -25,10 +25,10 @@ fn end_of(first: usize, both: usize) -> usize
 
 pub fn codes(both: &[u32], first: usize) -> Reply {
     let end = end_of(first, both.len());
-    replied(ranking::text::rank(&both[..end], &both[end..]))
+    replied(ranking_text::rank(&both[..end], &both[end..]))
 }
 
 pub fn encoded(both: &[u8], first: usize) -> Reply {
     let end = end_of(first, both.len());
-    replied(ranking::bytes::rank(&both[..end], &both[end..]))
+    replied(ranking_bytes::rank(&both[..end], &both[end..]))
 }

@@ -15,7 +15,7 @@ use borrow.Author.Tests.{eqb-true, eqb-false, ne-eqb, le-leb, lt-leb}
 use Rattle.laws.specs.Lists.{All, none, also}
 use Rattle.laws.specs.Ranges.{within}
 use Rattle.laws.specs.Strings.{same}
-use Rattle.laws.specs.Writing.{Room, Wrote}
+use Rattle.laws.specs.Writing.{Room}
 use Rattle.laws.proofs.Bools.{test, T-true, and-T-left, and-T-right, and-not-right}
 use Rattle.laws.proofs.Ranges.{within-yes, within-below, within-above, within-least, within-most}
 use Rattle.laws.proofs.Strings.{same-true}
@@ -126,14 +126,3 @@ letters-by {table} rows c = test (within 0x1100 0x11FF c) listed (λ e. rw (← 
     listed e =
         let l = within-least 0x1100 0x11FF c e in
         ap lettersBy (row-of rows c l (within-most 0x1100 0x11FF c e)) ∙ row-back (letters-nonzero c (λ z. omega arith)) (letters-least c) (letters-most c)
-
--- the same of a row that was read: what a function that writes its letters asks and leaves
-module _ {table : List ℕ} (rows : Rows table) (c : ℕ) {row : Row} (read : row ≡ rowAt table c) where
-  row-letters : lettersOf c ≡ lettersBy row
-  row-letters = sym (ap lettersBy read ∙ letters-by rows c)
-
-  pub room-row : {all out : List ℕ} {at : ℕ} → Room out at all → length (lettersOf c) ≤ length all → Room out at (lettersBy row)
-  room-row r h = record { fits = omega (arith, r .fits, ap length row-letters) }
-
-  pub wrote-row : {all out out′ : List ℕ} {at r : ℕ} → all ≡ lettersOf c → Wrote out at (lettersBy row) r out′ → Wrote out at all r out′
-  wrote-row e w = rw (e ∙ row-letters) w

@@ -9,62 +9,34 @@ use Prim.Native.Nat.{ℕ, _+_, _-_, _*_, _≤_, _<_}
 use native.Mathlib.Omega.{arith}
 use lib.ListN.{length, getD, drop, length-append}
 use Rattle.laws.specs.Lists.{each, All}
-use Rattle.laws.specs.Writing.{Room, Wrote}
-use Rattle.laws.proofs.Bools.{test}
 use Rattle.laws.proofs.Lists.{each-end, each-one, each-append, each-each, each-alone, all-map, all-each, all-each-of, length-each-least, length-each-most}
-use Rattle.laws.proofs.Ranges.{within-above}
 use Rattle.laws.proofs.Filling.{Piece, each-piece}
 use Rattle.answers.specs.Checks.{bad}
 use Rattle.letters.specs.Syllables.{isSyllable, initialOf, peakOf, finalOf, oneStep, partsTo, partsOf, fullParts}
 use Rattle.letters.specs.Answers.{listed}
 use Rattle.letters.specs.declared.step.Parts.{Parts}
-use Rattle.letters.specs.declared.step.Parts.the-variants.{One, Two}
+use Rattle.letters.specs.declared.step.Parts.the-variants.{One}
 use Rattle.letters.proofs.Sorts.{sort-between}
-use Rattle.letters.proofs.Steps.{syllable-below, syllable-least, syllable-most, step-other, by-step}
-use Rattle.letters.proofs.Parts.{parts-some, parts-none, parts-one, parts-two, parts-other, parts-lv, parts-lvt, Closed, full-append, full-closed, full-full, full-of-step, full-good, full-least}
+use Rattle.letters.proofs.Steps.{syllable-below, syllable-most, step-other, by-step}
+use Rattle.letters.proofs.Parts.{parts-one, parts-other, parts-lv, parts-lvt, Closed, full-append, full-closed, full-full, full-of-step, full-good, full-least}
 use Rattle.joining.specs.Joining.{join}
 use Rattle.joining.proofs.Joins.{parts-join}
 use Rattle.clusters.specs.Table.{lettersOf}
 use Rattle.clusters.specs.Simple.{simple, simpleTo, simpleLetters, otherCharacters}
-use Rattle.clusters.proofs.Rule.{table-rule, letters-least, letters-most, initial-most, final-most, letters-outside, letters-all, letters-good}
+use Rattle.clusters.proofs.Rule.{table-rule, letters-least, letters-most, initial-most, final-most, letters-all, letters-good}
 
 -- ---- of one code point, down to a depth
 
-pub simple-none : (d c : ℕ) → d ≡ 0 → simpleTo d c ≡ lettersOf c
-unfolding simpleTo
-simple-none d c e = rw (parts-none d c e) (each-one lettersOf c)
-
-pub simple-other : (d c : ℕ) → isSyllable c ≡ false → simpleTo d c ≡ lettersOf c
+simple-other : (d c : ℕ) → isSyllable c ≡ false → simpleTo d c ≡ lettersOf c
 unfolding simpleTo
 simple-other d c h = rw (parts-other d c h) (each-one lettersOf c)
 
--- one part, and two: p is what the code's one step answered
+-- one part: p is what the code's one step answered
 pub simple-one : (d c : ℕ) {p : Parts} {a : ℕ} → listed p ≡ oneStep c → p ≡ One a → simpleTo d c ≡ lettersOf a
 unfolding simpleTo
 simple-one d c {a = a} q r = rw (parts-one d c q r) (each-one lettersOf a)
 
-pub simple-two : (d c : ℕ) {p : Parts} {a b : ℕ} → (d ≡ 0 → ⊥) → listed p ≡ oneStep c → p ≡ Two a b
-    → Piece (simpleTo d c) (simpleTo (d - 1) a) (simpleTo (d - 1) b)
-unfolding simpleTo
-simple-two d c {a = a} {b = b} n q r =
-    record { eq = ap (each lettersOf) (parts-two d c n q r .eq) ∙ each-append lettersOf (partsTo (d - 1) a) (partsTo (d - 1) b) }
-
 -- ---- how long it is of one code point
-
--- at least as long as the code point's own letters, at any depth: a syllable has itself alone
-simple-some : (d c : ℕ) → 1 ≤ length (simpleTo d c)
-unfolding simpleTo
-simple-some d c = omega (arith, parts-some d c, length-each-least lettersOf letters-least (partsTo d c))
-
-pub simple-fits : (d c : ℕ) → length (lettersOf c) ≤ length (simpleTo d c)
-simple-fits d c =
-    test (isSyllable c)
-    (λ h. let l = syllable-least c h in rw (letters-outside c (within-above 0x1100 0x11FF c (omega arith))) (simple-some d c))
-    (λ h. omega (arith, ap length (simple-other d c h)))
-
--- and as the letters of its one part
-pub simple-one-fits : (d c : ℕ) {p : Parts} {a : ℕ} → listed p ≡ oneStep c → p ≡ One a → length (lettersOf a) ≤ length (simpleTo d c)
-simple-one-fits d c q r = omega (arith, ap length (simple-one d c q r))
 
 -- of a syllable at most 2, 3 and 2 letters, of any other at most 3
 pub simple-of-most : (c : ℕ) → length (simpleTo 2 c) ≤ 7
@@ -84,14 +56,6 @@ simple-of-most c = by-step c lv lvt (λ h. rw (simple-other 2 c h) (omega (arith
 
     lvt : isSyllable c ≡ true → (finalOf c ≡ 0 → ⊥) → length (each lettersOf (partsTo 2 c)) ≤ 7
     lvt h e = rw (parts-lvt 0 c h e) (simp length-append (omega (arith, first h, letters-most (0x1161 + peakOf c), last h e)))
-
--- so seven places have room for it
-pub simple-room : (out : List ℕ) (c : ℕ) → length out ≡ 7 → Room out 0 (simpleTo 2 c)
-simple-room out c e = record { fits = omega (arith, simple-of-most c) }
-
--- what is written from the start on is as long as the index behind it
-pub written-length : {out xs out′ : List ℕ} {r : ℕ} → Wrote out 0 xs r out′ → r ≡ length xs
-written-length w = omega (arith, w .behind)
 
 -- ---- a text's
 

@@ -1,12 +1,14 @@
 -- The table and the parts as the code has them: 768 numbers, and a row of them by value. What the private functions promise.
--- Not here: the clusters (specs/Table). Assumes nothing.
+-- Not here: the clusters (specs/Table), simple form (specs/Simple). Assumes nothing.
 use mathlib.Core.Path.{_≡_}
 use mathlib.Core.Bool.{cond, _&&_}
 use mathlib.Core.List.{List, [], _∷_}
 use Prim.Native.Nat.{ℕ, _+_, _-_, _*_, _<_}
 use lib.Dec.{eqb, leb}
 use lib.ListN.{length, getD, take, drop}
+use Rattle.laws.specs.Lists.{each}
 use Rattle.laws.specs.Ranges.{within}
+use Rattle.letters.specs.Syllables.{partsTo}
 use Rattle.clusters.specs.Table.{rowOf}
 use Rattle.clusters.specs.declared.table.Row.{Row}
 
@@ -28,3 +30,7 @@ unlessZero n rest = cond (eqb n 0) [] (n ∷ rest)
 
 abbrev pub lettersBy : Row → List ℕ
 lettersBy row = row .first ∷ unlessZero (row .second) (unlessZero (row .third) [])
+
+-- the letters of the parts of a code point, taken apart down to a depth: each part's by its row, whatever the table
+unfoldable pub simpleBy : List ℕ → ℕ → ℕ → List ℕ
+simpleBy table depth c = each (λ part. lettersBy (rowAt table part)) (partsTo depth c)

@@ -1,13 +1,13 @@
 -- What the functions that gather promise. In order: the spans in which a cluster is looked for (`Covers`, `Spans`), what the search answers (`Searched`,
 -- `orZero`); gathering as a machine that carries the letters not yet decided, and a step of it; joining behind it, and the parts of each code point before
--- it, as one machine (`coded`); what is written with the two states by value (`Joined`, `Turned`).
--- Not here: the gathered form itself (specs/Gathering), the laws that these give it (proofs/Stepping). Assumes nothing.
+-- it, as one machine (`coded`).
+-- Not here: the gathered form itself (specs/Gathering), the laws that these give it (proofs/Clustering, proofs/GatheredForm), what is written with both
+-- states by value (crate clusters_gathered). Assumes nothing.
 use mathlib.Core.Path.{_≡_}
 use mathlib.Core.Option.{Option, none, some}
 use mathlib.Core.List.{List, [], _∷_}
 use Prim.Native.Nat.{ℕ, _≤_, _<_}
-use Rattle.laws.specs.Machines.{Machine, outs, ends, behind, fed}
-use Rattle.laws.specs.Writing.{Wrote}
+use Rattle.laws.specs.Machines.{Machine, behind, fed}
 use Rattle.joining.specs.Joining.{joiner}
 use Rattle.joining.specs.Steps.{emitted}
 use Rattle.joining.specs.declared.joiner.Open.{Open}
@@ -20,7 +20,6 @@ use Rattle.clusters.specs.declared.gathering.Span.{Span}
 use Rattle.clusters.specs.declared.gathering.Pending.{Pending}
 use Rattle.clusters.specs.declared.gathering.Pending.the-variants.{Nothing, One, Two}
 use Rattle.clusters.specs.declared.gathering.Gathered.{Gathered}
-use Rattle.clusters.specs.declared.simple.Writer.{Writer}
 
 -- ---- the search
 
@@ -84,17 +83,3 @@ gathering = behind gatherer joiner
 
 abbrev pub coded : Machine (Pending × Open) ℕ ℕ
 coded = fed (simpleTo 2) gathering
-
-abbrev pub stateOf : Writer → Pending × Open
-stateOf w = (w .pending, w .joiner .state)
-
--- the joiner has taken the codes, and what it writes stands in the buffer
-pub record Joined (w : Writer) (codes out : List ℕ) (r : Writer) (out′ : List ℕ) : Type 0 where
-  pub pends : r .pending ≡ w .pending
-  pub opens : r .joiner .state ≡ ends joiner (w .joiner .state) codes
-  pub writes : Wrote out (w .at) (outs joiner (w .joiner .state) codes) (r .at) out′
-
--- and so both machines the letters
-pub record Turned (w : Writer) (letters out : List ℕ) (r : Writer) (out′ : List ℕ) : Type 0 where
-  pub goes : stateOf r ≡ ends gathering (stateOf w) letters
-  pub writes : Wrote out (w .at) (outs gathering (stateOf w) letters) (r .at) out′

@@ -1,5 +1,5 @@
 // The table of clusters: a row of three numbers for each code from 1100 to 11FF (document 01).
-// Not here: what is done with a row (simple).
+// Not here: what is done with a row (crates clusters_simple, clusters_gathering).
 ghost use mathlib.Core.Path.{_≡_};
 ghost use lib.ListN.{length};
 ghost use Rattle.clusters.specs.Rows.{Rows, rowAt};
@@ -274,7 +274,7 @@ pub struct Row {
 
 // The table. A call takes it once and lends it on, since each use of the constant puts the whole
 // table on the stack.
-pub(crate) fn table() -> [u16; 768]
+pub fn table() -> [u16; 768]
     ensures { λ r. ⌜ 768 ≡ length r ⌝ }
     ensures { λ r. ⌜ Rows r ⌝ }
 {
@@ -282,7 +282,7 @@ pub(crate) fn table() -> [u16; 768]
 }
 
 // The row of a code; one that the table does not have is alone.
-pub(crate) fn row_at(table: &[u16], code: u32) -> Row
+pub fn row_at(table: &[u16], code: u32) -> Row
     ensures { λ r. ⌜ r ≡ rowAt (now (table .entry)) code ⌝ }
 {
     let alone = Row {

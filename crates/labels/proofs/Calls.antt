@@ -38,8 +38,8 @@ use Rattle.labels.specs.declared.image.Found.{Found}
 use Rattle.labels.specs.declared.image.Found.the-variants.{Record, Refused as FoundRefused}
 use Rattle.labels.specs.declared.image.Judged.{Judged}
 use Rattle.labels.specs.declared.image.Judged.the-variants.{Records, Refused, BadRecord}
-use Rattle.labels.specs.declared.writing.Form.{Form}
-use Rattle.labels.specs.declared.writing.Form.the-variants.{AsGiven, Joined}
+use Rattle.labels.specs.declared.image.Form.{Form}
+use Rattle.labels.specs.declared.image.Form.the-variants.{AsGiven, Joined}
 use Rattle.labels.proofs.Records.{record-length, record-object, record-berth, record-size, record-label}
 use Rattle.labels.proofs.Orders.{order-first, order-rest, passes-true}
 use Rattle.labels.proofs.Layouts.{layout-good, written-passes, record-back}

@@ -1,30 +1,42 @@
 -- Bytes copied one by one to the front of others, and the bytes of a record read as numbers.
 --
--- In order: the next byte of a copy, and its end (`copy-next`, `copy-all`); what the code reads in a record (`object-read`, `berth-read`,
+-- In order: the next byte of a copy, and its end (`copy-next`, `copy-all`), all that there is room for (`copied-front`) or
+-- none (`copied-none`); what the code reads in a record (`object-read`, `berth-read`,
 -- `entry-read`).
 -- Not here: what is copied (proofs/Finding, proofs/Storing).
 -- Assumes nothing.
-use mathlib.Core.Path.{_≡_, refl}
+use mathlib.Core.Path.{_≡_, refl, sym, _∙_}
 use mathlib.Core.List.{List, [], _∷_}
 use Prim.Native.Nat.{ℕ, _+_, _*_, _≤_, _<_}
 use native.Mathlib.Numerals.{add-one}
 use native.Mathlib.Omega.{arith}
 use lib.ListN.{length, getD, drop, set, drop-of-length-le}
 use lib.Seq.{drop-cons}
+use borrow.Author.Tests.{le-leb, lt-leb}
 use Rattle.laws.specs.Writing.{front}
 use Rattle.laws.proofs.Filling.{Filling, wrote-one, filling-more, filling-all}
 use Rattle.labels.specs.Records.{objectOf, berthOf, entryOf}
+use Rattle.labels.specs.Steps.{copied}
 use Rattle.labels.specs.declared.layout.Entry.{Entry}
 use Rattle.labels.proofs.Numbers.{number-four, number-two}
 
 -- ---- a copy
 
+module _ (bytes out : List ℕ) where
+  pub copied-front : length bytes ≤ length out → copied bytes out ≡ front bytes out
+  unfolding copied
+  copied-front h = rw (le-leb (length bytes) (length out) h)
+
+  pub copied-none : length out < length bytes → out ≡ copied bytes out
+  unfolding copied
+  copied-none h = rw (lt-leb (length bytes) (length out) h)
+
 module _ (bytes : List ℕ) {out₀ out : List ℕ} {at : ℕ} (f : Filling bytes (drop at bytes) out₀ out at) where
   pub copy-next : length bytes ≤ length out₀ → at < length bytes → Filling bytes (drop (at + 1) bytes) out₀ (set out at (getD bytes at 0)) (at + 1)
   copy-next room h = filling-more room f (record { eq = rw add-one (drop-cons bytes at 0 h) }) (wrote-one refl)
 
-  pub copy-all : length bytes ≤ at → out ≡ front bytes out₀
-  copy-all h = filling-all f (drop-of-length-le bytes h) .holds
+  pub copy-all : length bytes ≤ length out₀ → length bytes ≤ at → out ≡ copied bytes out₀
+  copy-all room h = filling-all f (drop-of-length-le bytes h) .holds ∙ sym (copied-front bytes out₀ room)
 
 -- ---- numbers read
 

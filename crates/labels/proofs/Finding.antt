@@ -20,12 +20,14 @@ use Rattle.answers.specs.declared.Checked.{Checked}
 use Rattle.answers.specs.declared.Checked.the-variants.{Passed, Refused as CheckRefused}
 use Rattle.answers.proofs.Verdicts.{refused-before, refused-room, filled-whole}
 use Rattle.labels.specs.Records.{sizeOf, labelOf, entryOf, layout}
-use Rattle.labels.specs.Images.{recordAt, overImage, noRecord, takesRecord, Finds}
+use Rattle.labels.specs.Images.{recordAt, overImage, noRecord, takesRecord, Finds, entryAt}
 use Rattle.labels.specs.declared.layout.Entry.{Entry}
 use Rattle.labels.specs.declared.image.Found.the-variants.{Record, Refused}
 use Rattle.labels.proofs.Orders.{order-first, order-rest, order-one}
 use Rattle.labels.proofs.Layouts.{label-length, layout-good}
-use Rattle.labels.proofs.Images.{at-length, image-over, image-within, number-inside}
+use Rattle.labels.specs.Steps.{copied}
+use Rattle.labels.proofs.Images.{at-length, entry-inside, image-over, image-within, number-inside}
+use Rattle.labels.proofs.Copies.{copied-front}
 
 -- ---- 1, 6 and 7: v is what the check of the number said, and w that of the record
 
@@ -98,14 +100,11 @@ module _ (image : List ℕ) (k : ℕ) (taken : takesRecord image k ≡ passes) w
 
 -- ---- the call's returns
 
--- the entry is that of the part of the image that the record is
+-- the entry is that of the record
 module _ (image : List ℕ) (k : ℕ) (taken : takesRecord image k ≡ passes) {entry : Entry}
-    (read : entry ≡ entryOf (take (96 * k + 96 - 96 * k) (drop (96 * k) image))) where
+    (read : entry ≡ entryAt image k) where
   entry-is : entry ≡ entryOf (recordAt image k)
-  unfolding recordAt
-  entry-is =
-      let n : 96 * k + 96 - 96 * k ≡ 96 = omega arith in
-      rw n at read
+  entry-is = read ∙ entry-inside image k (taken-inside image k taken)
 
   size-is : entry .length ≡ length (labelOf (recordAt image k))
   size-is = ap (λ (e : Entry). e .length) entry-is ∙ sym (taken-size image k taken)
@@ -118,11 +117,12 @@ module _ (image : List ℕ) (k : ℕ) (taken : takesRecord image k ≡ passes) {
     finds-lacking h = record { fills = refused-room taken size-is h }
 
     pub finds-done : entry .length ≤ length out
-        → {out′ : List ℕ} → out′ ≡ front (take (96 * k + 8 + entry .length - (96 * k + 8)) (drop (96 * k + 8) image)) out
+        → {out′ : List ℕ} → out′ ≡ copied (take (96 * k + 8 + entry .length - (96 * k + 8)) (drop (96 * k + 8) image)) out
         → Finds image k out (Record entry) out′
     finds-done h e =
         let l = taken-label image k taken (entry .length) (ap (λ (e : Entry). e .length) entry-is) in
-        rw entry-is (record { fills = filled-whole taken (omega (arith, size-is)) (rw l at e) })
+        let fits : length (labelOf (recordAt image k)) ≤ length out = omega (arith, size-is) in
+        rw entry-is (record { fills = filled-whole taken fits ((rw l at e) ∙ copied-front (labelOf (recordAt image k)) out fits) })
 
 -- v is what the checks said
 pub finds-refused : (image : List ℕ) (k : ℕ) (out : List ℕ) {v : Checked} {r : Refusal} → checked v ≡ takesRecord image k → v ≡ CheckRefused r

@@ -17,8 +17,8 @@ use borrow.Author.Tests.{lt-ltb, le-ltb, ltb-true, ltb-false, eq-eqb, ne-eqb}
 use Rattle.laws.proofs.Bools.{test, and-right}
 use Rattle.answers.specs.Checks.{passes, refuses}
 use Rattle.answers.proofs.Checks.{over-limit-refuses, over-limit-passes}
-use Rattle.labels.specs.Records.{layout}
-use Rattle.labels.specs.Images.{recordAt, replaced, countOf, overImage, noImage, noRecord}
+use Rattle.labels.specs.Records.{entryOf, layout}
+use Rattle.labels.specs.Images.{recordAt, replaced, countOf, overImage, noImage, noRecord, entryAt}
 use Rattle.labels.specs.Steps.{faulty}
 use Rattle.labels.proofs.Orders.{passes-true}
 
@@ -126,3 +126,8 @@ unfolding recordAt
 fault-is image k byte e =
     let n : 96 * k + 96 - 96 * k ≡ 96 = omega arith in
     rw n at e
+
+-- what a record in the image says is what its 96 bytes say
+pub entry-inside : (image : List ℕ) (k : ℕ) → 96 * k + 96 ≤ length image → entryAt image k ≡ entryOf (recordAt image k)
+unfolding entryAt
+entry-inside image k h = rw (lt-ltb k (countOf image) (omega arith))

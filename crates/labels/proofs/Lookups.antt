@@ -1,5 +1,6 @@
--- A record's label and berth, of any image. In order: where the label's length stands (`size-at`); no such record (`label-none`, `berth-none`), a
--- length over 88 (`label-long`), and else the label and the berth (`label-is`, `berth-is`); no label is over 88 bytes (`label-short`).
+-- A record's label, entry and berth, of any image. In order: where the label's length stands (`size-at`); no such record (`label-none`, `entry-none`), a
+-- length over 88 (`label-long`), and else the label and the entry (`label-is`, `entry-part`); the berth is the entry's (`berth-entry`); no label is over
+-- 88 bytes (`label-short`).
 -- Not here: reading a record that was judged (proofs/Finding). Assumes nothing.
 use mathlib.Core.Path.{_≡_, refl, sym, _∙_, ap}
 use mathlib.Core.Bool.{Bool, true, false, cond, _&&_}
@@ -12,7 +13,7 @@ use lib.Seq.{getD-take, getD-drop, drop-drop}
 use borrow.Author.Tests.{lt-ltb, le-ltb, le-leb, lt-leb, leb-true}
 use Rattle.laws.proofs.Bools.{and-right}
 use Rattle.labels.specs.Records.{berthOf, sizeOf, labelOf, entryOf}
-use Rattle.labels.specs.Images.{countOf, recordAt, labelAt, berthAt}
+use Rattle.labels.specs.Images.{countOf, recordAt, labelAt, berthAt, entryAt}
 use Rattle.labels.specs.declared.layout.Entry.{Entry}
 use Rattle.labels.proofs.Finding.{from-eighth}
 
@@ -25,9 +26,9 @@ module _ (image : List ℕ) (k : ℕ) where
   unfolding labelAt
   label-none h = rw (le-ltb k (countOf image) h)
 
-  pub berth-none : countOf image ≤ k → 0 ≡ berthAt image k
-  unfolding berthAt
-  berth-none h = rw (le-ltb k (countOf image) h)
+  pub entry-none : countOf image ≤ k → _≡_ {A = Entry} (record { object = 0; berth = 0; length = 0 }) (entryAt image k)
+  unfolding entryAt
+  entry-none h = rw (le-ltb k (countOf image) h)
 
   module _ (has : k < countOf image) where
     pub label-long : 88 < getD image (96 * k + 6) 0 → [] ≡ labelAt image k
@@ -47,11 +48,19 @@ module _ (image : List ℕ) (k : ℕ) where
         let m : 96 * k + 8 + getD image (96 * k + 6) 0 - (96 * k + 8) ≡ getD image (96 * k + 6) 0 = omega arith in
         rw (lt-ltb k (countOf image) has, size-at, le-leb (getD image (96 * k + 6) 0) 88 h, m, ← drop-drop 8 (96 * k) image) (label-bytes h)
 
-    pub berth-is : {entry : Entry} → entry ≡ entryOf (take (96 * k + 96 - 96 * k) (drop (96 * k) image)) → entry .berth ≡ berthAt image k
-    unfolding berthAt recordAt
-    berth-is e =
+    pub entry-part : {entry : Entry} → entry ≡ entryOf (take (96 * k + 96 - 96 * k) (drop (96 * k) image)) → entry ≡ entryAt image k
+    unfolding entryAt recordAt
+    entry-part e =
         let n : 96 * k + 96 - 96 * k ≡ 96 = omega arith in
-        ap (λ (x : Entry). x .berth) e ∙ rw (lt-ltb k (countOf image) has, n)
+        e ∙ rw (lt-ltb k (countOf image) has, n)
+
+  pub berth-entry : {entry : Entry} → entry ≡ entryAt image k → entry .berth ≡ berthAt image k
+  unfolding entryAt berthAt
+  berth-entry e = ap (λ (x : Entry). x .berth) e ∙ by (ltb k (countOf image))
+    where
+      by : (b : Bool) → cond b (entryOf (recordAt image k)) (record { object = 0; berth = 0; length = 0 }) .berth ≡ cond b (berthOf (recordAt image k)) 0
+      by true = refl
+      by false = refl
 
   -- no label is over 88 bytes, whatever the image
   pub label-short : length (labelAt image k) ≤ 88

@@ -34,13 +34,14 @@ use Rattle.mending.specs.Mending.{mended}
 use Rattle.mending.proofs.Round.{call-done}
 use Rattle.labels.specs.Records.{zeros, freshRecord, recordOf, firstIll}
 use Rattle.labels.specs.Images.{replaced, overImage, noRecord, stored, noLabel, takesWriting, Writes}
-use Rattle.labels.specs.Steps.{tooMany, Stores}
-use Rattle.labels.specs.declared.writing.Form.{Form}
-use Rattle.labels.specs.declared.writing.Form.the-variants.{AsGiven, Joined}
+use Rattle.labels.specs.Steps.{copied, tooMany, Stores}
+use Rattle.labels.specs.declared.image.Form.{Form}
+use Rattle.labels.specs.declared.image.Form.the-variants.{AsGiven, Joined}
 use Rattle.labels.proofs.Numbers.{four-bytes, two-bytes}
 use Rattle.labels.proofs.Records.{record-length}
 use Rattle.labels.proofs.Orders.{order-first, order-rest, order-one, order-refused, order-passed}
 use Rattle.labels.proofs.Places.{ill-none, formed-end}
+use Rattle.labels.proofs.Copies.{copied-front}
 use Rattle.labels.proofs.Images.{image-over, image-within, number-inside}
 
 -- ---- a fresh record filled
@@ -70,18 +71,23 @@ module _ (object berth : ℕ) (label fresh : List ℕ) where
   made h k f e = rw (e, f, four-bytes object h, two-bytes berth k, append-nil, drop-zeros (length label) 88)
 
   pub record-made : length label ≤ 88 → object < 2 ^ 32 → berth < 2 ^ 16 → fresh ≡ freshRecord
-      → {last : List ℕ} → last ≡ front label (take 88 (drop 8 (started fresh object berth (length label))))
+      → {last : List ℕ} → last ≡ copied label (take 88 (drop 8 (started fresh object berth (length label))))
       → (96 ≡ length (putMid 8 88 (started fresh object berth (length label)) last))
       × (putMid 8 88 (started fresh object berth (length label)) last ≡ recordOf object berth label)
-  record-made short h k f e = (sym (ap length (made h k f e) ∙ record-length object berth label short), made h k f e)
+  unfolding freshRecord
+  record-made short h k f e =
+      let place = take 88 (drop 8 (started fresh object berth (length label))) in
+      let size : length place ≡ 88 = rw f refl in
+      let whole = made h k f (e ∙ copied-front label place (omega (arith, size))) in
+      (sym (ap length whole ∙ record-length object berth label short), whole)
 
 -- ---- in its place
 
 -- bytes of a record copied over a record's place are all of it
-pub put-whole : (place bytes whole : List ℕ) → length place ≡ 96 → 96 ≡ length bytes → bytes ≡ whole → {place′ : List ℕ} → place′ ≡ front bytes place
+pub put-whole : (place bytes whole : List ℕ) → length place ≡ 96 → 96 ≡ length bytes → bytes ≡ whole → {place′ : List ℕ} → place′ ≡ copied bytes place
     → place′ ≡ whole
 put-whole place bytes whole size e f q =
-    q ∙ ap (λ (l : List ℕ). bytes ++ l) (drop-of-length-le place {i = length bytes} (omega arith)) ∙ append-nil bytes ∙ f
+    q ∙ copied-front bytes place (omega arith) ∙ ap (λ (l : List ℕ). bytes ++ l) (drop-of-length-le place {i = length bytes} (omega arith)) ∙ append-nil bytes ∙ f
 
 -- the place is the record's in the image
 pub put-placed : (image : List ℕ) (k : ℕ) (bytes : List ℕ) {place : List ℕ} → place ≡ bytes

@@ -19,8 +19,8 @@ use Rattle.labels.specs.declared.image.Found.{Found}
 use Rattle.labels.specs.declared.image.Found.the-variants.{Record, Refused as FoundRefused}
 use Rattle.labels.specs.declared.image.Judged.{Judged}
 use Rattle.labels.specs.declared.image.Judged.the-variants.{Records, Refused, BadRecord}
-use Rattle.labels.specs.declared.writing.Form.{Form}
-use Rattle.labels.specs.declared.writing.Form.the-variants.{AsGiven, Joined}
+use Rattle.labels.specs.declared.image.Form.{Form}
+use Rattle.labels.specs.declared.image.Form.the-variants.{AsGiven, Joined}
 
 -- ---- the records of an image
 
@@ -40,6 +40,10 @@ labelAt image k = cond (ltb k (countOf image) && leb (sizeOf (recordAt image k))
 
 unfoldable pub berthAt : List ℕ → ℕ → ℕ
 berthAt image k = cond (ltb k (countOf image)) (berthOf (recordAt image k)) 0
+
+-- what it says beside its label: zeros where there is no such record
+unfoldable pub entryAt : List ℕ → ℕ → Entry
+entryAt image k = cond (ltb k (countOf image)) (entryOf (recordAt image k)) (record { object = 0; berth = 0; length = 0 })
 
 -- ---- what is checked
 

@@ -1,4 +1,4 @@
--- What the private functions of the label file ask and promise: a byte that breaks a layout as a check (`faulty`), what is copied (`Copied`), and the
+-- What the functions behind the calls of the label file ask and promise: what is copied (`copied`), a byte that breaks a layout as a check (`faulty`), and the
 -- bytes of a label stored (`Stores`). Not here: the contracts of the calls (specs/Images). Assumes nothing.
 use mathlib.Core.Path.{_≡_}
 use mathlib.Core.Bool.{cond}
@@ -6,11 +6,16 @@ use mathlib.Core.List.{List}
 use Prim.Native.Nat.{ℕ}
 use lib.Dec.{leb, eqb}
 use lib.ListN.{length}
+use Rattle.laws.specs.Writing.{front}
 use Rattle.answers.specs.Checks.{Check, passes, refuses}
 use Rattle.answers.specs.Answers.{checked}
 use Rattle.answers.specs.declared.Checked.{Checked}
 use Rattle.labels.specs.Records.{recordOf}
 use Rattle.labels.specs.Images.{changed, replaced}
+
+-- bytes copied to the front of others: all, or none where there is no room for all
+unfoldable pub copied : List ℕ → List ℕ → List ℕ
+copied bytes out = cond (leb (length bytes) (length out)) (front bytes out) out
 
 -- the first byte that breaks a record's layout, or 0 for none: byte 0 breaks none
 unfoldable pub faulty : ℕ → Check

@@ -82,7 +82,7 @@ pub extern "C" fn pulphopper_read_name(name: &[u8]) -> Answer
 pub extern "C" fn pulphopper_rank(first: &[u8], second: &[u8]) -> Answer
     ensures { λ r. ⌜ RanksForC (now (first .entry)) (now (second .entry)) r ⌝ }
 {
-    let answer = ranking::bytes::rank(first, second);
+    let answer = ranking_bytes::rank(first, second);
     match answer {
         Ranked::Stands(order) => Answer {
             refusal: 0,

@@ -1,8 +1,7 @@
 // ranker: prints the record numbers of the label file on standard input in the order of their labels
-// (document 01, 'Programs'). It reads, calls and writes; the lines are crate sorting's.
+// (document 01, 'Programs'). It reads, calls and writes; the lines are crate sorting_lines'.
 use answers::Refusal;
 use labels::image::Judged;
-use sorting::lines;
 
 // One byte more than an image may have, so that one over the limit is seen to be.
 const IMAGE: usize = 65473;
@@ -36,6 +35,6 @@ fn main() {
     let mut image = [0u8; IMAGE];
     let mut printed = [0u8; ROOM];
     let size = io::read_full(libc::STDIN_FILENO, &mut image);
-    let answer = lines::print(&image[..size], &mut printed);
+    let answer = sorting_lines::print(&image[..size], &mut printed);
     write_answer(answer, &printed);
 }

@@ -1,6 +1,6 @@
 -- How far ranking has come in two texts. In order: a character as a front (`next-end`, `next-digit`, `next-below`, `next-above`); where characters
 -- begin, over any way to read a text (`begins-end`, `begins-front`), in a text of code points (`code-end`, `code-alone`, `code-two`, `code-three`)
--- and of bytes (`byte-begins`); one step (`adds-within`, `advances`, `fits`, `follows-none`, `follows-on`, `advanced-on`, `follows-reached`); the
+-- and of bytes (`byte-begins`); one step (`advances`, `fits`, `follows-none`, `follows-on`, `advanced-on`, `follows-reached`); the
 -- loops (`measureOf`, `start`, `less`, `rank-found`, `rank-bytes-found`); bytes that are alike (`plain-below` and so on, `alike-at`, `alike-none`,
 -- `alike-more`, `alike-follows`).
 -- Not here: what a step answers (proofs/Steps), the calls (proofs/Calls). Assumes nothing.
@@ -8,7 +8,7 @@ use mathlib.Core.Path.{_≡_, refl, sym, _∙_, ap}
 use mathlib.Core.Bool.{Bool, true, false, cond, not, false≢true}
 use mathlib.Core.Logic.{_⊎_, inl, inr}
 use mathlib.Core.List.{List, [], _∷_, _++_, append-assoc}
-use Prim.Native.Nat.{ℕ, suc, _+_, _-_, _≤_, _<_}
+use Prim.Native.Nat.{ℕ, suc, _+_, _-_, _%_, _^_, _≤_, _<_}
 use native.Mathlib.Nat.{add-zero}
 use native.Mathlib.Omega.{arith}
 use lib.Dec.{ltb, eqb}
@@ -193,7 +193,7 @@ passed-most true n = omega arith
 passed-most false n = omega arith
 
 -- the numbers that the code adds fit
-pub adds-within : (at size : ℕ) (b : Bool) {p : ℕ} → at + size ≤ 16384 → p ≡ cond b size 0 → at + p ≤ 16384
+adds-within : (at size : ℕ) (b : Bool) {p : ℕ} → at + size ≤ 16384 → p ≡ cond b size 0 → at + p ≤ 16384
 adds-within at size b h e = omega (arith, passed-most b size)
 
 module _ (s : At) (a b : Next) (m : Move) (steps : Steps (s .state) (a .front) (b .front) m) {p q : ℕ}
@@ -219,13 +219,21 @@ module _ (s : At) (a b : Next) (m : Move) (steps : Steps (s .state) (a .front) (
     step-more (inr (e, n)) = omega (arith, k .more n, second-passes ∙ ap (λ (c : Bool). cond c (b .size) 0) e)
 
   -- THE STEP, wherever the two characters begin
-  pub advances : Advances s a b (record { state = m .state; first = s .first + p; second = s .second + q })
-  advances = record {
+  step-advances : Advances s a b (record { state = m .state; first = s .first + p; second = s .second + q })
+  step-advances = record {
     advanced = λ from first second h k. record {
       follows = step-follows from first second h k;
       more = λ g. step-more from first second h k (steps .on g);
     };
   }
+
+  -- the code's sums wrap, and where they fit they are the sums
+  pub advances : {u v : ℕ} → u ≡ (s .first + p) % 2 ^ 64 → v ≡ (s .second + q) % 2 ^ 64 → Fits s a b
+      → Advances s a b (record { state = m .state; first = u; second = v })
+  advances {u} {v} e d f =
+      let first : u ≡ s .first + p = omega (arith, adds-within (s .first) (a .size) (m .first) (f .first-fits) first-passes, e) in
+      let second : v ≡ s .second + q = omega (arith, adds-within (s .second) (b .size) (m .second) (f .second-fits) second-passes, d) in
+      rw (first, second) step-advances
 
 module _ {from : List ℕ → ℕ → List ℕ} {first second : List ℕ} {s : At} where
   pub fits : Reached first second s → {a b : Next} → Begins from first (s .first) a → Begins from second (s .second) b → Fits s a b

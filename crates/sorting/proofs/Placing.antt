@@ -18,7 +18,7 @@ use Rattle.ranking.specs.declared.order.Order.{Order}
 use Rattle.ranking.specs.declared.order.Order.the-variants.{Before}
 use Rattle.sorting.specs.Sorting.{standing, isBefore, placed}
 use Rattle.sorting.specs.Steps.{Between, Searchable, Halved, Placed, Inserted}
-use Rattle.sorting.specs.declared.order.Span.{Span}
+use Rattle.sorting.specs.declared.span.Span.{Span}
 use Rattle.sorting.proofs.Standing.{standing-before, standing-strict, is-before, is-not-before}
 use Rattle.sorting.proofs.Sorted.{placed-none, placed-behind, placed-here, sorted-at}
 

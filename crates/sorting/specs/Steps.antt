@@ -5,7 +5,7 @@ use Prim.Native.Nat.{ℕ, suc, _+_, _-_, _≤_, _<_}
 use lib.ListN.{length, getD, take, drop}
 use Rattle.ranking.specs.declared.order.Order.the-variants.{Before, Equal, After}
 use Rattle.sorting.specs.Sorting.{standing, Sorted}
-use Rattle.sorting.specs.declared.order.Span.{Span}
+use Rattle.sorting.specs.declared.span.Span.{Span}
 
 -- the place of k among the first n numbers is not below low, nor above high
 pub record Between (image numbers : List ℕ) (n k : ℕ) (s : Span) : Type 0 where

@@ -16,8 +16,8 @@ fn make(call: Text, text: &[u32], made: &mut [u32]) -> Filled {
     match call {
         Text::Join => joining_text::join(text, made),
         Text::Parts => letters_apart::full_parts(text, made),
-        Text::Simple => clusters::simple::simple_form(text, made),
-        Text::Gather => clusters::simple::gathered_form(text, made),
+        Text::Simple => clusters_simple::simple_form(text, made),
+        Text::Gather => clusters_gathered::gathered_form(text, made),
         Text::Groups => fillers::groups::turn(text, made),
     }
 }

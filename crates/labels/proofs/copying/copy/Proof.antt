@@ -1,10 +1,11 @@
--- `labels::copying::copy` meets its contract: the bytes read so far fill the front, and those behind them are still to be copied.
+-- `labels::copying::copy` meets its contract: none where there is no room; else the bytes read so far fill the front, and those
+-- behind them are still to be copied.
 -- Assumes nothing.
 use Prim.Native.Nat.{_≤_, _-_}
 use native.Mathlib.Omega.{arith}
 use lib.ListN.{length, drop}
 use Rattle.laws.proofs.Filling.{Filling, filling-none, filling-length}
-use Rattle.labels.proofs.Copies.{copy-next, copy-all}
+use Rattle.labels.proofs.Copies.{copied-none, copy-next, copy-all}
 use borrow.Author.Needs.{needs}
 use Rattle.labels.proofs.copying.copy.Statement.{statement}
 use Rattle.labels.proofs.copying.copy.Tie as tie
@@ -14,6 +15,9 @@ Inv-loop bytes out₀ at₀ out at = (at ≤ length bytes) × Filling bytes (dro
 
 abbrev μ-loop : tie.MeasureT-loop
 μ-loop bytes out₀ at₀ out at = length bytes - at
+
+returns : tie.Need-returns Inv-loop μ-loop
+returns c = copied-none _ _ (c .if1 .taken)
 
 loop-holds : tie.Need-loop-holds Inv-loop μ-loop
 loop-holds c = (search needs, filling-none _ _)
@@ -25,9 +29,9 @@ slice-write-out : tie.Need-slice-write-out Inv-loop μ-loop
 slice-write-out c =
     omega (
       arith,
-      filling-length (c .before .before .before .pre) (c .before .before .loop .inv .1),
+      filling-length (c .before .before .before .if1 .left) (c .before .before .loop .inv .1),
       c .before .loop-test .taken,
-      c .before .before .before .pre,
+      c .before .before .before .if1 .left,
     )
 
 add-at : tie.Need-add-at Inv-loop μ-loop
@@ -37,13 +41,13 @@ loop-less : tie.Need-loop-less Inv-loop μ-loop
 loop-less c = search needs
 
 loop-again : tie.Need-loop-again Inv-loop μ-loop
-loop-again c = (search needs, copy-next _ (c .before .before .loop .inv .1) (c .before .before .before .pre) (c .before .loop-test .taken))
+loop-again c = (search needs, copy-next _ (c .before .before .loop .inv .1) (c .before .before .before .if1 .left) (c .before .loop-test .taken))
 
 same-length : tie.Need-same-length Inv-loop μ-loop
-same-length c = filling-length (c .before .before .pre) (c .before .loop .inv .1)
+same-length c = filling-length (c .before .before .if1 .left) (c .before .loop .inv .1)
 
-returns : tie.Need-returns Inv-loop μ-loop
-returns c = copy-all _ (c .before .loop .inv .1) (c .loop-test .left)
+returns-2 : tie.Need-returns-2 Inv-loop μ-loop
+returns-2 c = copy-all _ (c .before .loop .inv .1) (c .before .before .if1 .left) (c .loop-test .left)
 
 pub copy-spec : {M : Type 1} → statement M
 copy-spec =
@@ -51,6 +55,7 @@ copy-spec =
     (tie.spec
     Inv-loop
     μ-loop
+    returns
     loop-holds
     shared-slice-read-out
     slice-write-out
@@ -58,4 +63,4 @@ copy-spec =
     loop-less
     loop-again
     same-length
-    returns)
+    returns-2)

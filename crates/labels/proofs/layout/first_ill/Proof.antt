@@ -31,7 +31,6 @@ add-at c =
     omega (
       arith,
       (taken-next _ _ (c .before .before .before .before .loop-test .taken) (c .before .before .before .read-at .ensures)) .inside,
-      c .before .before .before .before .before .before .before .pre,
     )
 
 loop-less : tie.Need-loop-less Inv-loop μ-loop

@@ -1,0 +1,16 @@
+-- `clusters_gathered::writer_at` meets its contract: nothing is open.
+-- Assumes nothing.
+use Rattle.clusters_gathered.proofs.Stepping.{start-state}
+use mathlib.Core.Path.{refl}
+use borrow.Author.Needs.{needs}
+use Rattle.clusters_gathered.proofs.writer_at.Statement.{statement}
+use Rattle.clusters_gathered.proofs.writer_at.Tie as tie
+
+new-requires : tie.Need-new-requires
+new-requires c κs = search needs
+
+returns : tie.Need-returns
+returns c = (start-state (c .new .ensures), refl)
+
+pub writer-at-spec : {M : Type 1} → statement M
+writer-at-spec = tie.close (tie.spec new-requires returns)

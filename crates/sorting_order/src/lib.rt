@@ -1,0 +1,137 @@
+// Crate sorting_order: the order of an image's records, into a lent buffer: each record is put in its place among those
+// before it, which is found by halves. Not here: how the order is printed (crate sorting_lines).
+use answers::Refusal;
+use labels::image::Judged;
+use ranking::order;
+use ranking::order::Order;
+use ranking::order::Ranked;
+use sorting::span::Span;
+ghost use mathlib.Core.Path.{_≡_};
+ghost use Prim.Native.Nat.{_≤_, _<_};
+ghost use lib.ListN.{length};
+ghost use Rattle.laws.specs.Writing.{front};
+ghost use Rattle.answers.specs.Checks.{passes};
+ghost use Rattle.ranking.specs.Ranking.{rankBytes};
+ghost use Rattle.labels.specs.Images.{labelAt, takesImage, countOf};
+ghost use Rattle.sorting.specs.Sorting.{standing, isBefore, orderOf, Orders};
+ghost use Rattle.sorting.specs.Steps.{Between, Searchable, Halved, Placed, Inserted};
+
+// Two records by their labels.
+fn by_label(image: &[u8], first: usize, second: usize) -> Order
+    ensures { λ r. ⌜ r ≡ rankBytes (labelAt (now (image .entry)) first) (labelAt (now (image .entry)) second) ⌝ }
+{
+    let ranked = ranking_bytes::rank(
+        labels_record::label_at(image, first),
+        labels_record::label_at(image, second),
+    );
+    match ranked {
+        Ranked::Stands(order) => order,
+        // No label is over the limit.
+        Ranked::Refused(_) => Order::Equal,
+    }
+}
+
+// And then by berth and by number.
+fn compared(image: &[u8], first: u32, second: u32) -> Order
+    ensures { λ r. ⌜ r ≡ standing (now (image .entry)) first second ⌝ }
+{
+    let label = by_label(image, first as usize, second as usize);
+    let berth = order::compared(
+        labels_record::berth_at(image, first as usize) as u32,
+        labels_record::berth_at(image, second as usize) as u32,
+    );
+    let number = order::compared(first, second);
+    order::followed(label, order::followed(berth, number))
+}
+
+fn comes_before(image: &[u8], first: u32, second: u32) -> bool
+    ensures { λ r. ⌜ r ≡ isBefore (standing (now (image .entry)) first second) ⌝ }
+{
+    let order = compared(image, first, second);
+    match order {
+        Order::Before => true,
+        Order::Equal => false,
+        Order::After => false,
+    }
+}
+
+// One of the two halves.
+fn halved(image: &[u8], numbers: &[u32], count: usize, number: u32, span: Span) -> Span
+    requires { ⌜ Searchable (now image) (now numbers) count ⌝ }
+    requires { ⌜ Between (now image) (now numbers) count number span ⌝ }
+    requires { ⌜ span .low < span .high ⌝ }
+    ensures { λ r. ⌜ Halved (now (image .entry)) (now (numbers .entry)) count number span r ⌝ }
+{
+    let low = span.low;
+    let high = span.high;
+    let middle = low + (high - low) / 2;
+    if comes_before(image, numbers[middle], number) {
+        return Span {
+            low: middle + 1,
+            high,
+        };
+    }
+    Span { low, high: middle }
+}
+
+// The place of a record among the first `count` numbers, which are sorted.
+fn place_of(image: &[u8], numbers: &[u32], count: usize, number: u32) -> usize
+    requires { ⌜ Searchable (now image) (now numbers) count ⌝ }
+    ensures { λ r. ⌜ Placed (now (image .entry)) (now (numbers .entry)) count number r ⌝ }
+{
+    let mut span = Span {
+        low: 0,
+        high: count,
+    };
+    while span.low < span.high {
+        span = halved(image, numbers, count, number, span);
+    }
+    span.low
+}
+
+// Puts a record at an index among the first `count` numbers; those behind it move up by one.
+fn insert(numbers: &mut [u32], count: usize, at: usize, number: u32)
+    requires { ⌜ at ≤ count ⌝ }
+    requires { ⌜ count < length (now numbers) ⌝ }
+    ensures { λ r. ⌜ Inserted (now (numbers .entry)) count at number (now (numbers .exit)) ⌝ }
+{
+    let mut to = count;
+    while at < to {
+        numbers[to] = numbers[to - 1];
+        to -= 1;
+    }
+    numbers[at] = number;
+}
+
+// Writes the order to the front of `out`, which has room for it.
+fn order_into(image: &[u8], count: usize, out: &mut [u32])
+    requires { ⌜ count ≡ countOf (now image) ⌝ }
+    requires { ⌜ takesImage (now image) ≡ passes ⌝ }
+    requires { ⌜ count ≤ length (now out) ⌝ }
+    ensures { λ r. ⌜ now (out .exit) ≡ front (orderOf (now (image .entry))) (now (out .entry)) ⌝ }
+{
+    let mut number: usize = 0;
+    while number < count {
+        let at = place_of(image, out, number, number as u32);
+        insert(out, number, at, number as u32);
+        number += 1;
+    }
+}
+
+// The order of an image's records: refusals 1, 6, 7 and 3.
+pub fn order(image: &[u8], out: &mut [u32]) -> Judged
+    ensures { λ r. ⌜ Orders (now (image .entry)) (now (out .entry)) r (now (out .exit)) ⌝ }
+{
+    let judged = labels_image::read_image(image);
+    match judged {
+        Judged::Records(count) => {
+            if out.len() < count {
+                return Judged::Refused(Refusal::NoRoom(count));
+            }
+            order_into(image, count, out);
+            Judged::Records(count)
+        }
+        Judged::Refused(refusal) => Judged::Refused(refusal),
+        Judged::BadRecord(number, byte) => Judged::BadRecord(number, byte),
+    }
+}
