@@ -16,7 +16,8 @@ put-letters-requires c κs = (
   (
     letters-fit (by-most _ _) (c .before .before .before .before .letters-of .ensures),
     room-taken (c .before .before .before .before .before .before .before .args .writer)
-        (letters-taken (by-most _ _) (c .before .before .before .before .letters-of .ensures) ∙ by-rows (c .before .before .before .before .before .before .before .pre .0) _ _)
+        (letters-taken (by-most _ _) (c .before .before .before .before .letters-of .ensures)
+        ∙ by-rows (c .before .before .before .before .before .before .before .pre .0) _ _)
         (c .before .before .before .before .before .before .before .pre .1),
   ),
 )
@@ -27,7 +28,8 @@ same-length c = search needs
 returns : tie.Need-returns
 returns c =
     turned-taken
-    (letters-taken (by-most _ _) (c .before .before .before .before .before .before .before .letters-of .ensures) ∙ by-rows (c .before .before .before .before .before .before .before .before .before .before .pre .0) _ _)
+    (letters-taken (by-most _ _) (c .before .before .before .before .before .before .before .letters-of .ensures)
+    ∙ by-rows (c .before .before .before .before .before .before .before .before .before .before .pre .0) _ _)
     (c .before .before .put-letters .ensures)
 
 pub put-gathered-spec : {M : Type 1} → statement M

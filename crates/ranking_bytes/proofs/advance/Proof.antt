@@ -19,8 +19,11 @@ advance-requires c κs = search needs
 
 returns : tie.Need-returns
 returns c =
+    let limits = c .before .before .before .before .before .before .pre in
+    let reached = follows-reached (c .before .before .before .skip .ensures) (limits .first-limit) (limits .second-limit) in
+    let fit = fits reached (c .before .before .next-at .ensures) (c .before .next-at2 .ensures) in
     advanced-on (c .before .before .before .skip .ensures)
-    (c .advance .ensures (fits (follows-reached (c .before .before .before .skip .ensures) (c .before .before .before .before .before .before .pre .first-limit) (c .before .before .before .before .before .before .pre .second-limit)) (c .before .before .next-at .ensures) (c .before .next-at2 .ensures)) .advanced _ _ _ (c .before .before .next-at .ensures) (c .before .next-at2 .ensures))
+    (c .advance .ensures fit .advanced _ _ _ (c .before .before .next-at .ensures) (c .before .next-at2 .ensures))
 
 pub advance-spec : {M : Type 1} → statement M
 advance-spec =

@@ -15,7 +15,9 @@ advance-requires : tie.Need-advance-requires
 advance-requires c κs = search needs
 
 returns : tie.Need-returns
-returns c = c .advance .ensures (fits (c .before .before .before .before .before .pre) (c .before .before .next-at .ensures) (c .before .next-at2 .ensures)) .advanced _ _ _ (c .before .before .next-at .ensures) (c .before .next-at2 .ensures)
+returns c =
+    let fit = fits (c .before .before .before .before .before .pre) (c .before .before .next-at .ensures) (c .before .next-at2 .ensures) in
+    c .advance .ensures fit .advanced _ _ _ (c .before .before .next-at .ensures) (c .before .next-at2 .ensures)
 
 pub advance-spec : {M : Type 1} → statement M
 advance-spec = tie.close (tie.spec next-at-requires next-at-requires-2 advance-requires returns)
