@@ -4,23 +4,26 @@
 -- In order: nothing, and one part behind the other (`passes-none`, `passes-on`); a well-formed sequence that joins with nothing behind it
 -- (`character-full`, `passes-full`); ASCII, one byte and eight (`low-character`, `low-passes`, `low-eight`); a letter of the block 1100–11FF begins
 -- with E1 (`letter-first`), so before any other byte nothing joins (`apart-behind`) and a character of three bytes passes (`three-stands`,
--- `three-character`, `three-passes`); the high bits of eight bytes, tested in one number (`bit-none`, `word-low`).
+-- `three-character`, `three-passes`), also as the last of a text (`three-last`); its first two bytes, tested in one number (`lead-number`,
+-- `lead-three`); the high bits of eight bytes, tested so (`bit-none`, `word-low`).
 -- Assumes nothing.
 use mathlib.Core.Path.{_≡_, refl, sym, _∙_, ap}
 use mathlib.Core.Bool.{true}
 use mathlib.Core.List.{List, [], _∷_, _++_, append-assoc}
-use Prim.Native.Nat.{ℕ, suc, _+_, _/_, _%_, _^_, _≤_, _<_}
+use Prim.Native.Nat.{ℕ, suc, _+_, _*_, _/_, _%_, _^_, _≤_, _<_}
 use native.Mathlib.Nat.{add-zero, zero-div}
 use native.Mathlib.Numerals.{add-one}
 use native.Mathlib.Omega.{arith}
 use lib.Bits.{bitAnd, and-shr, and-mod, and-mask}
 use lib.Dec.{ltb, eqb}
-use lib.ListN.{length, getD, drop}
+use lib.ListN.{length, getD, drop, List·getD-eq-default}
 use lib.Seq.{drop-cons, getD-drop}
 use borrow.Author.Tests.{eq-eqb, eqb-true, ltb-true, ltb-false}
+use Rattle.laws.specs.Ranges.{within}
 use Rattle.laws.specs.Pieces.{Piece, full, good, pieces}
 use Rattle.laws.specs.Readings.{Reading, nothing, formed, broken}
 use Rattle.laws.proofs.Bools.{test}
+use Rattle.laws.proofs.Ranges.{within-least, within-most}
 use Rattle.joining.specs.Joining.{pair}
 use Rattle.joining.proofs.Roles.{role-between, peak-range, final-range}
 use Rattle.joining.proofs.Pairs.{pair-before, pair-none}
@@ -33,7 +36,7 @@ use Rattle.utf8.proofs.Writing.{bytes-three}
 use Rattle.utf8.proofs.Reading.{reading8}
 use Rattle.utf8_round.proofs.Round.{full-piece, full-bytes}
 use Rattle.mending.specs.Characters.{grown, characterFrom}
-use Rattle.mending.specs.Steps.{Passes, Three, Low, wordOf}
+use Rattle.mending.specs.Steps.{Passes, Three, Lead, Low, wordOf}
 use Rattle.mending.proofs.Characters.{apart-ill, stops, Character, character-next}
 
 -- ---- nothing, and one part behind the other
@@ -169,6 +172,34 @@ module _ (text : List ℕ) (at : ℕ) (h : at + 3 ≤ length text) {d : ℕ} (e 
   three-passes =
       passes-full text at (getD text at 0 ∷ getD text (at + 1) 0 ∷ getD text (at + 2) 0 ∷ []) (three-stands text at h) (three-full t) (omega arith)
       three-character
+
+-- the last three bytes of a text
+pub three-last : (text : List ℕ) (at : ℕ) → length text ≡ at + 3 → Three (getD text at 0) (getD text (at + 1) 0) (getD text (at + 2) 0) 0
+    → Passes text at (at + 3)
+three-last text at h t = three-passes text at (omega arith) (sym (List·getD-eq-default text 0 {n = at + 3} (omega arith))) t
+
+-- the first two bytes as one number
+pub lead-number : {a b : ℕ} → b < 256 → 0xEA80 ≤ a * 0x100 + b → a * 0x100 + b ≤ 0xED9F → within 0x80 0xBF b ≡ true → Lead a b
+lead-number {a} {b} byte l m w = record {
+  least = omega arith;
+  most = omega arith;
+  second-least = within-least 0x80 0xBF b w;
+  second-most = within-most 0x80 0xBF b w;
+  second-ed = λ e. omega (arith, e);
+}
+
+-- and a third behind them
+pub lead-three : {a b c d : ℕ} → Lead a b → within 0x80 0xBF c ≡ true → (d ≡ 0xE1 → ⊥) → Three a b c d
+lead-three {c = c} l w n = record {
+  least = l .least;
+  most = l .most;
+  second-least = l .second-least;
+  second-most = l .second-most;
+  second-ed = l .second-ed;
+  third-least = within-least 0x80 0xBF c w;
+  third-most = within-most 0x80 0xBF c w;
+  apart = n;
+}
 
 -- ---- the test of eight bytes in one number
 

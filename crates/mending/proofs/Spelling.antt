@@ -1,7 +1,7 @@
 -- A syllable that stands as single letters, by its bytes. In order: the bytes of a letter of the block 1100–11FF at an index, and back (`Letter`,
 -- `letter-bytes`, `bytes-letter`); a letter by its tail (`tail-short`, `tail-other`, `tail-three`); F of a final (`final-low`,
--- `final-high`, `final-none`); a character that takes in what is read behind it (`grown-takes`, `grown-stays`); and a syllable of two letters and of
--- three (`spelled-none`, `initial-inside`, `peak-inside`, `spelled-two`, `spelled-three`).
+-- `final-high`, `final-none`); a character that takes in what is read behind it (`first-grown`, `grown-takes`, `grown-stays`); and a syllable of two
+-- letters and of three (`spelled-none`, `initial-inside`, `peak-inside`, `spelled-two`, `spelled-three`).
 -- Not here: which letters join (crate joining, proofs/Pairs). Assumes nothing.
 use mathlib.Core.Path.{_≡_, refl, sym, _∙_, ap}
 use mathlib.Core.Bool.{Bool, true, false, cond}
@@ -161,6 +161,11 @@ module _ (text : List ℕ) (at : ℕ) {r : ℕ} (tail : Tail text at r) where
 
 -- ---- a character that takes in what is read behind it
 
+pub first-grown : (text : List ℕ) (at : ℕ) {t : Taken} → t ≡ takenFrom (pieces kindOf (drop at text))
+    → characterFrom (pieces kindOf (drop at text)) ≡ grown t (pieces kindOf (drop (at + t .size) text))
+first-grown text at {t} e =
+    ap (λ (x : Taken). grown x (behindFirst (pieces kindOf (drop at text)))) (sym e) ∙ ap (grown t) (sym (behind-first text at e))
+
 module _ (t : Taken) (text : List ℕ) (n : ℕ) {next : Taken} (read : next ≡ takenFrom (pieces kindOf (drop n text))) where
   takes-on : (P : List (Piece ℕ)) → pieces kindOf (drop n text) ≡ P → next ≡ takenFrom P → (pair (t .code) (next .code) ≡ 0 → ⊥)
       → grown t P ≡ grown (record {
@@ -222,9 +227,7 @@ module _ (text : List ℕ) (at : ℕ) {a : ℕ} (first : Tail text at a) (a-leas
     pair-grown =
         let six : at + 3 + 3 ≡ at + 6 = omega arith in
         let n : pair (0x1100 + (a - 0x8480)) (0x1161 + (b - 0x85A1)) ≡ 0 → ⊥ = λ z. omega (arith, pair-is) in
-        ap (λ (t : Taken). grown t (behindFirst (pieces kindOf (drop at text)))) (sym initial-taken)
-        ∙ ap (grown (goodOf (0x1100 + (a - 0x8480)) 3)) (sym (behind-first text at initial-taken))
-        ∙ grown-takes (goodOf (0x1100 + (a - 0x8480)) 3) text (at + 3) peak-taken n ∙ rw (six, pair-is)
+        first-grown text at initial-taken ∙ grown-takes (goodOf (0x1100 + (a - 0x8480)) 3) text (at + 3) peak-taken n ∙ rw (six, pair-is)
 
     -- f is F of what stands behind them
     module _ {f : ℕ} (found : f ≡ lastOf (takenFrom (pieces kindOf (drop (at + 6) text)) .code)) where

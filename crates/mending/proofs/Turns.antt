@@ -1,5 +1,5 @@
 -- One turn of the loops over a text, and the loops. In order: the bytes between two indices, copied one by one (`Copying` and its laws); a part that
--- passes by its length (`passes-length`); a turn that writes: a character has room and was written (`fits-placed`, `character-fits`,
+-- passes by its length (`passes-length`); a turn that writes: a character has room and was written (`wrote-placed`, `fits-placed`, `character-fits`,
 -- `character-moved`), so with bytes that pass (`passes-room`, `passes-moved`); a turn that counts (`count-fits`, `count-character`, `passes-count`,
 -- `count-passes`); and what the two loops keep (`Writing`, `Tallying`, with their laws) up to the end (`mended-end`).
 -- Not here: what a character is (proofs/Characters), which bytes pass (proofs/Passes), how long a mended text is at most (proofs/Bound).
@@ -86,11 +86,15 @@ goes-length g = simp length-append at (ap length (g .mends))
 
 -- ---- a turn that writes
 
+pub wrote-placed : {out : List ℕ} {s : At} {t : Taken} {k : ℕ} {out′ : List ℕ} → Wrote out (s .written) (bytesOf (t .code)) k out′
+    → Placed out s t (record { read = s .read + t .size; written = k; ills = s .ills + t .ill }) out′
+wrote-placed w = record { wrote = w; read = refl; ills = refl }
+
 pub fits-placed : {out : List ℕ} {s : At} {t : Taken} → Fits out s t → {k : ℕ} {out′ : List ℕ}
     → Wrote out (s .written) (fitting (t .code) out (s .written)) k out′
     → Placed out s t (record { read = s .read + t .size; written = k; ills = s .ills + t .ill }) out′
 fits-placed {out} {s} {t} f w =
-    record { wrote = rw (fitting-all (t .code) out (s .written) (f .code) (f .room .fits)) at w; read = refl; ills = refl }
+    wrote-placed (rw (fitting-all (t .code) out (s .written) (f .code) (f .room .fits)) at w)
 
 module _ {text out : List ℕ} {s : At} where
   pub character-fits : Ready text out s → {t : Taken} → Character text (s .read) t → Fits out s t

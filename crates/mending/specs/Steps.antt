@@ -1,9 +1,10 @@
 -- What the private functions of mending ask and promise: how far they come in a text, what they read there, and what they leave in the buffer.
 -- Not here: the mended text (specs/Mending), the contract of the call (crate utf8, specs/Reading, `Reads` at `mended`). Assumes nothing.
 --
--- In order: a part of a text (`Goes`), one that stands as it is in the mended text (`Passes`), and its copy (`Copies`); three bytes that pass (`Three`),
--- eight (`Low`, `wordOf`); a letter by its bytes (`tailOf`, `Tail`, `lastOf`); one turn of the loop that writes (`Ready`, `Moved`, and for a character
--- `Fits`, `Placed`) and of the one that counts (`CountReady`, `CountMoved`, `CountFits`, `CountPlaced`).
+-- In order: a part of a text (`Goes`), one that stands as it is in the mended text (`Passes`), and its copy (`Copies`); three bytes that pass (`Three`,
+-- the first two of them `Lead`), eight (`Low`, `wordOf`); a letter by its bytes (`tailOf`, `Tail`, `OfTail`, `lastOf`); a code point that takes three
+-- bytes (`Triple`); one turn of the loop that writes (`Ready`, `Moved`, and for a character `Fits`, `Placed`) and of the one that counts
+-- (`CountReady`, `CountMoved`, `CountFits`, `CountPlaced`).
 use mathlib.Core.Path.{_≡_}
 use mathlib.Core.Bool.{cond}
 use mathlib.Core.List.{List, [], _∷_, _++_}
@@ -52,6 +53,14 @@ pub record Three (a b c d : ℕ) : Type 0 where
   pub third-most : c ≤ 0xBF
   pub apart : d ≡ 0xE1 → ⊥
 
+-- a and b are the first two bytes of such a character
+pub record Lead (a b : ℕ) : Type 0 where
+  pub least : 0xEA ≤ a
+  pub most : a ≤ 0xED
+  pub second-least : 0x80 ≤ b
+  pub second-most : b ≤ 0xBF
+  pub second-ed : a ≡ 0xED → b ≤ 0x9F
+
 -- eight bytes as one number, the first one lowest
 abbrev pub wordOf : ℕ → ℕ → ℕ → ℕ → ℕ → ℕ → ℕ → ℕ → ℕ
 wordOf a b c d e f g h =
@@ -79,9 +88,21 @@ pub record Tail (text : List ℕ) (at r : ℕ) : Type 0 where
   pub is : (c : ℕ) → 0x1100 ≤ c → c ≤ 0x11FF → r ≡ tailOf c → takenFrom (pieces kindOf (drop at text)) ≡ goodOf c 3
   pub only : (c : ℕ) → 0x1100 ≤ c → c ≤ 0x11FF → takenFrom (pieces kindOf (drop at text)) .code ≡ c → r ≡ tailOf c
 
+-- r is the letter whose tail is `tail`
+pub record OfTail (tail : ℕ) (r : Taken) : Type 0 where
+  pub is : tail ≡ tailOf (r .code)
+  pub least : 0x1100 ≤ r .code
+  pub most : r .code ≤ 0x11FF
+  pub whole : r ≡ goodOf (r .code) 3
+
 -- F of a modern final, and 0 of any other code point
 unfoldable pub lastOf : ℕ → ℕ
 lastOf c = cond (within 0x11A8 0x11C2 c) (c - 0x11A7) 0
+
+-- a code point that takes three bytes
+pub record Triple (c : ℕ) : Type 0 where
+  pub least : 0x800 ≤ c
+  pub most : c < 0x10000
 
 -- ---- one turn
 

@@ -4,7 +4,8 @@ ghost use mathlib.Core.Path.{_≡_};
 ghost use mathlib.Core.Bool.{true};
 ghost use Prim.Native.Nat.{_≤_, _<_};
 ghost use lib.ListN.{length, getD};
-ghost use Rattle.mending.specs.Steps.{Passes, Three, Low, wordOf};
+ghost use Rattle.laws.specs.Ranges.{within};
+ghost use Rattle.mending.specs.Steps.{Passes, Three, Lead, Low, wordOf};
 
 fn wide(byte: u8) -> u64
     ensures { λ r. ⌜ r ≡ byte ⌝ }
@@ -113,14 +114,45 @@ pub fn is_three(a: u8, b: u8, c: u8, d: u8) -> bool
     b < 0xA0
 }
 
-// Syllables and what lies beside them, behind which nothing can join.
+// The first two bytes of a character from A000 to D7FF: as one number they lie between EA80 and ED9F.
+fn is_lead(a: u8, b: u8) -> bool
+    ensures { λ r. ⌜ (r ≡ true → Lead a b) ⌝ }
+{
+    let both = a as u32 * 0x100 + b as u32;
+    if both < 0xEA80 {
+        return false;
+    }
+    if both > 0xED9F {
+        return false;
+    }
+    is_continuation(b)
+}
+
+// Does a byte continue a sequence?
+pub fn is_continuation(byte: u8) -> bool
+    ensures { λ r. ⌜ r ≡ within 0x80 0xBF byte ⌝ }
+{
+    if byte < 0x80 {
+        return false;
+    }
+    byte <= 0xBF
+}
+
+// Syllables and what lies beside them, behind which nothing can join, as long as there are four bytes. Each byte is
+// read when those before it fit, so that the end of a run is found by its first byte.
 fn threes(text: &[u8], from: usize) -> usize
     requires { ⌜ from ≤ length (now text) ⌝ }
     ensures { λ r. ⌜ Passes (now (text .entry)) from r ⌝ }
 {
     let mut at = from;
-    while text.len() - at >= 3 {
-        if !is_three(text[at], text[at + 1], text[at + 2], byte(text, at + 3)) {
+    while text.len() - at >= 4 {
+        if !is_lead(text[at], text[at + 1]) {
+            return at;
+        }
+        if !is_continuation(text[at + 2]) {
+            return at;
+        }
+        if text[at + 3] == 0xE1 {
             return at;
         }
         at += 3;
@@ -128,19 +160,45 @@ fn threes(text: &[u8], from: usize) -> usize
     at
 }
 
-// A run of one kind.
-fn run(text: &[u8], from: usize) -> usize
+// The same for the last three bytes of a text.
+fn last_three(text: &[u8], at: usize) -> usize
+    requires { ⌜ at ≤ length (now text) ⌝ }
+    ensures { λ r. ⌜ Passes (now (text .entry)) at r ⌝ }
+{
+    if text.len() - at != 3 {
+        return at;
+    }
+    if !is_three(text[at], text[at + 1], text[at + 2], 0) {
+        return at;
+    }
+    at + 3
+}
+
+// ASCII, where the text goes on so.
+fn ascii(text: &[u8], from: usize) -> usize
     requires { ⌜ from < length (now text) ⌝ }
     ensures { λ r. ⌜ Passes (now (text .entry)) from r ⌝ }
 {
-    if text[from] < 0x80 {
-        let low = eights(text, from);
-        return ones(text, low);
+    if text[from] >= 0x80 {
+        return from;
     }
-    threes(text, from)
+    let low = eights(text, from);
+    ones(text, low)
 }
 
-// As far as runs follow each other.
+// A run of ASCII, and behind it one of syllables.
+pub fn run(text: &[u8], from: usize) -> usize
+    ensures { λ r. ⌜ (from ≤ length (now (text .entry)) → Passes (now (text .entry)) from r) ⌝ }
+{
+    if text.len() <= from {
+        return from;
+    }
+    let low = ascii(text, from);
+    let end = threes(text, low);
+    last_three(text, end)
+}
+
+// As far as runs follow each other: behind one that does not end before ASCII there is none.
 pub fn passing(text: &[u8], from: usize) -> usize
     ensures { λ r. ⌜ (from ≤ length (now (text .entry)) → Passes (now (text .entry)) from r) ⌝ }
 {
@@ -149,6 +207,9 @@ pub fn passing(text: &[u8], from: usize) -> usize
         let end = run(text, at);
         if end == at {
             return at;
+        }
+        if byte(text, end) >= 0x80 {
+            return end;
         }
         at = end;
     }

@@ -1,5 +1,6 @@
 // A syllable that stands as single letters, found by its bytes with no code point in between.
 // A shorter way to what crate mending_character finds: nothing is decided here that is not decided there.
+pub mod alone;
 use utf8::read::Taken;
 ghost use mathlib.Core.Path.{_≡_};
 ghost use Prim.Native.Nat.{_≤_};
@@ -8,10 +9,10 @@ ghost use Rattle.laws.specs.Pieces.{pieces};
 ghost use Rattle.utf8.specs.Table37.{kindOf};
 ghost use Rattle.utf8.specs.Reading.{takenFrom, goodOf};
 ghost use Rattle.mending.specs.Characters.{characterFrom};
-ghost use Rattle.mending.specs.Steps.{Tail, lastOf};
+ghost use Rattle.mending.specs.Steps.{Tail, lastOf, Triple};
 
 // The second and third byte of a letter as one number: its first byte is E1. Else 0.
-fn tail_at(text: &[u8], at: usize) -> u32
+pub(crate) fn tail_at(text: &[u8], at: usize) -> u32
     requires { ⌜ at ≤ length (now text) ⌝ }
     ensures { λ r. ⌜ Tail (now (text .entry)) at r ⌝ }
 {
@@ -53,6 +54,7 @@ pub fn none() -> Taken
 fn letters_at(text: &[u8], at: usize) -> Taken
     requires { ⌜ at ≤ length (now text) ⌝ }
     ensures { λ r. ⌜ ((r .size ≡ 0 → ⊥) → r ≡ characterFrom (pieces kindOf (drop at (now (text .entry))))) ⌝ }
+    ensures { λ r. ⌜ ((r .size ≡ 0 → ⊥) → Triple (r .code)) ⌝ }
 {
     let initial = tail_at(text, at);
     if initial < 0x8480 {
@@ -87,6 +89,7 @@ fn letters_at(text: &[u8], at: usize) -> Taken
 // The same at every index.
 pub fn spelled_at(text: &[u8], at: usize) -> Taken
     ensures { λ r. ⌜ ((r .size ≡ 0 → ⊥) → r ≡ characterFrom (pieces kindOf (drop at (now (text .entry))))) ⌝ }
+    ensures { λ r. ⌜ ((r .size ≡ 0 → ⊥) → Triple (r .code)) ⌝ }
 {
     if text.len() <= at {
         return none();

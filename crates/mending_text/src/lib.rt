@@ -13,7 +13,7 @@ ghost use lib.ListN.{length};
 ghost use Rattle.answers.specs.Checks.{lacking, passes, takesBytes};
 ghost use Rattle.utf8.specs.Reading.{ReadFronts, Reads};
 ghost use Rattle.mending.specs.Mending.{mended};
-ghost use Rattle.mending.specs.Steps.{Copies, Ready, Moved, Fits, Placed, CountReady, CountMoved, CountFits, CountPlaced};
+ghost use Rattle.mending.specs.Steps.{Copies, Triple, Ready, Moved, Fits, Placed, CountReady, CountMoved, CountFits, CountPlaced};
 
 // Copies the bytes between two indices, and answers the index behind them in `out`.
 fn copy(text: &[u8], from: usize, to: usize, out: &mut [u8], at: usize) -> usize
@@ -45,6 +45,41 @@ fn place(out: &mut [u8], s: At, taken: Taken) -> At
     }
 }
 
+// Writes a character whose code point takes three bytes, with no test of what is known.
+fn set(out: &mut [u8], s: At, taken: Taken) -> At
+    requires { ⌜ Fits (now out) s taken ⌝ }
+    requires { ⌜ Triple (taken .code) ⌝ }
+    ensures { λ r. ⌜ Placed (now (out .entry)) s taken r (now (out .exit)) ⌝ }
+{
+    let code = taken.code;
+    let at = s.written;
+    out[at] = (0xE0 + code / 4096) as u8;
+    out[at + 1] = (0x80 + code / 64 % 64) as u8;
+    out[at + 2] = (0x80 + code % 64) as u8;
+    At {
+        read: s.read + taken.size,
+        written: at + 3,
+        ills: s.ills + taken.ill,
+    }
+}
+
+// One character: one that stands alone, or else any.
+fn make(text: &[u8], out: &mut [u8], s: At) -> At
+    requires { ⌜ Ready (now text) (now out) s ⌝ }
+    ensures { λ r. ⌜ Moved (now (text .entry)) (now (out .entry)) s r (now (out .exit)) ⌝ }
+{
+    let ill = mending_spelled::alone::ill_at(text, s.read);
+    if ill.size != 0 {
+        return set(out, s, ill);
+    }
+    let letter = mending_spelled::alone::letter_at(text, s.read);
+    if letter.size != 0 {
+        return set(out, s, letter);
+    }
+    let taken = mending_character::character_at(text, s.read);
+    place(out, s, taken)
+}
+
 // What passes, or else one character.
 fn pass(text: &[u8], out: &mut [u8], s: At) -> At
     requires { ⌜ Ready (now text) (now out) s ⌝ }
@@ -53,8 +88,7 @@ fn pass(text: &[u8], out: &mut [u8], s: At) -> At
     let read = s.read;
     let end = mending_passing::passing(text, read);
     if end == read {
-        let taken = mending_character::character_at(text, read);
-        return place(out, s, taken);
+        return make(text, out, s);
     }
     let written = copy(text, read, end, out, s.written);
     At {
@@ -73,7 +107,7 @@ fn advance(text: &[u8], out: &mut [u8], s: At) -> At
     if spelled.size == 0 {
         return pass(text, out, s);
     }
-    place(out, s, spelled)
+    set(out, s, spelled)
 }
 
 // Writes the mended text to the front of `out`, which has room for it.
@@ -113,7 +147,7 @@ fn count_pass(text: &[u8], s: Count) -> Count
     ensures { λ r. ⌜ CountMoved (now (text .entry)) s r ⌝ }
 {
     let read = s.read;
-    let end = mending_passing::passing(text, read);
+    let end = mending_passing::run(text, read);
     if end == read {
         let taken = mending_character::character_at(text, read);
         return count_place(s, taken);

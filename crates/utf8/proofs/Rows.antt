@@ -1,6 +1,6 @@
 -- Laws of table 3-7. In order: the row of a first byte by its range (`row-between`, `row-over`, `row-none`); every range of a row is that of
 -- continuation bytes or a part of it, and has a byte (`row-inner`), so that 0 lies in none (`inner-least`); THE KIND OF A SEQUENCE IS COHERENT
--- (`coherent8`); a byte that is no continuation byte begins a piece (`leads8`); what is a proper beginning really goes on to a well-formed sequence
+-- (`coherent8`); a byte that is no continuation byte begins a piece (`outside`, `leads8`); what is a proper beginning really goes on to a well-formed sequence
 -- (`completes`).
 -- Not here: what begins at an index of a text (proofs/Takes), the values (proofs/Forms).
 -- Assumes nothing.
@@ -141,7 +141,7 @@ coherent8 = record {
 
 -- ---- A BYTE THAT IS NO CONTINUATION BYTE BEGINS A PIECE: it lies in no range of a row
 
-outside : (lo hi b : ℕ) → 0x80 ≤ lo → hi ≤ 0xBF → within 0x80 0xBF b ≡ false → within lo hi b ≡ false
+pub outside : (lo hi b : ℕ) → 0x80 ≤ lo → hi ≤ 0xBF → within 0x80 0xBF b ≡ false → within lo hi b ≡ false
 outside lo hi b h k e =
     ⊎-elim (λ (p : b < 0x80). within-below lo hi b (omega arith)) (λ (p : 0xBF < b). within-above lo hi b (omega arith)) (within-not 0x80 0xBF b e)
 

@@ -1,4 +1,4 @@
--- What begins at an index of a text of bytes. In order: bytes at an index; a sequence that is begun and not yet whole (`Stands`: the bytes a ∷ x are
+-- What begins at an index of a text of bytes. In order: bytes at an index (`before-end`); a sequence that is begun and not yet whole (`Stands`: the bytes a ∷ x are
 -- open, and the row goes on with `row`), from its first byte (`begins-between`, `begun`) on with each byte in range (`goes-on`), to its last one (`whole-taken`) or to a
 -- byte out of range or the end (`broken-taken`); the sequences of one byte (`one-taken`, `none-taken`, `end-taken`); and what taking a piece leaves
 -- to be read (`behind`, `units-inside`, `Next`, `taken-next`).
@@ -30,7 +30,7 @@ use Rattle.utf8.proofs.Rows.{row-between}
 -- ---- bytes at an index
 
 -- a byte that is not 0 stands before the end
-before-end : (text : List ℕ) (n : ℕ) {b : ℕ} → b ≡ getD text n 0 → 1 ≤ b → n < length text
+pub before-end : (text : List ℕ) (n : ℕ) {b : ℕ} → b ≡ getD text n 0 → 1 ≤ b → n < length text
 before-end text n e h =
     test (ltb n (length text)) (λ q. ltb-true n (length text) q)
     (λ q. absurd (omega (arith, List·getD-eq-default text 0 {n = n} (ltb-false n (length text) q))))

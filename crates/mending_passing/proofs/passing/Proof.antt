@@ -1,9 +1,10 @@
 -- `mending_passing::passing` meets its contract. The loop's invariant: what lies between the start and the index passes.
 -- Assumes nothing.
-use Prim.Native.Nat.{_-_, _≤_}
-use lib.ListN.{length}
-use Rattle.mending.specs.Steps.{Passes}
 use Rattle.mending.proofs.Passes.{passes-none, passes-on}
+use Rattle.mending.specs.Steps.{Passes}
+use lib.ListN.{length}
+use Prim.Native.Nat.{_-_, _≤_}
+use native.Mathlib.Omega.{arith}
 use borrow.Author.Needs.{needs}
 use Rattle.mending_passing.proofs.passing.Statement.{statement}
 use Rattle.mending_passing.proofs.passing.Tie as tie
@@ -23,16 +24,46 @@ run-requires c κs = search needs
 returns : tie.Need-returns Inv-loop μ-loop
 returns c = c .before .before .before .loop .inv
 
-loop-less : tie.Need-loop-less Inv-loop μ-loop
-loop-less c = search needs
-
-loop-again : tie.Need-loop-again Inv-loop μ-loop
-loop-again c = λ h. passes-on (c .before .before .before .loop .inv h) (c .before .run .ensures)
+byte-requires : tie.Need-byte-requires Inv-loop μ-loop
+byte-requires c κs = search needs
 
 returns-2 : tie.Need-returns-2 Inv-loop μ-loop
-returns-2 c = c .before .loop .inv
+returns-2 c =
+    λ h. passes-on (c .before .before .before .before .before .loop .inv h) (c .before .before .before .run .ensures (omega (
+      arith,
+      c .before .before .before .before .loop-test .taken,
+    )))
+
+loop-less : tie.Need-loop-less Inv-loop μ-loop
+loop-less c =
+    omega (
+      arith,
+      c .before .before .before .run .ensures (omega (arith, c .before .before .before .before .loop-test .taken)) .goes .on,
+      c .before .before .if1 .left,
+      c .before .before .before .before .loop-test .taken,
+    )
+
+loop-again : tie.Need-loop-again Inv-loop μ-loop
+loop-again c =
+    λ h. passes-on (c .before .before .before .before .before .loop .inv h) (c .before .before .before .run .ensures (omega (
+      arith,
+      c .before .before .before .before .loop-test .taken,
+    )))
+
+returns-3 : tie.Need-returns-3 Inv-loop μ-loop
+returns-3 c = c .before .loop .inv
 
 pub passing-spec : {M : Type 1} → statement M
 passing-spec =
     tie.close
-    (tie.spec Inv-loop μ-loop loop-holds run-requires returns loop-less loop-again returns-2)
+    (tie.spec
+    Inv-loop
+    μ-loop
+    loop-holds
+    run-requires
+    returns
+    byte-requires
+    returns-2
+    loop-less
+    loop-again
+    returns-3)

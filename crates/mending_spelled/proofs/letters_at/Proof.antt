@@ -13,13 +13,13 @@ none-requires : tie.Need-none-requires
 none-requires c κs = search needs
 
 returns : tie.Need-returns
-returns c = spelled-none (c .none .ensures)
+returns c = (spelled-none (c .none .ensures), spelled-none (c .none .ensures))
 
 none-requires-2 : tie.Need-none-requires-2
 none-requires-2 c κs = search needs
 
 returns-2 : tie.Need-returns-2
-returns-2 c = spelled-none (c .none2 .ensures)
+returns-2 c = (spelled-none (c .none2 .ensures), spelled-none (c .none2 .ensures))
 
 add-tail-at : tie.Need-add-tail-at
 add-tail-at c = search (needs, initial-inside _ _ (c .before .before .tail-at .ensures) (c .before .if1 .left) (c .if2 .left))
@@ -31,13 +31,13 @@ none-requires-3 : tie.Need-none-requires-3
 none-requires-3 c κs = search needs
 
 returns-3 : tie.Need-returns-3
-returns-3 c = spelled-none (c .none3 .ensures)
+returns-3 c = (spelled-none (c .none3 .ensures), spelled-none (c .none3 .ensures))
 
 none-requires-4 : tie.Need-none-requires-4
 none-requires-4 c κs = search needs
 
 returns-4 : tie.Need-returns-4
-returns-4 c = spelled-none (c .none4 .ensures)
+returns-4 c = (spelled-none (c .none4 .ensures), spelled-none (c .none4 .ensures))
 
 mul-lv : tie.Need-mul-lv
 mul-lv c = search needs
@@ -65,11 +65,13 @@ final-at-requires c κs =
     (c .before .before .before .if2 .left) (c .before .before .tail-at2 .ensures) (c .before .if3 .left) (c .if4 .left)
 
 returns-5 : tie.Need-returns-5
-returns-5 c =
-    λ n. spelled-two _ _ (c .before .before .before .before .before .before .before .tail-at .ensures)
-    (c .before .before .before .before .before .before .if1 .left) (c .before .before .before .before .before .if2 .left)
-    (c .before .before .before .before .tail-at2 .ensures) (c .before .before .before .if3 .left) (c .before .before .if4 .left)
-    (c .before .final-at .ensures) (c .if5 .taken)
+returns-5 c = (
+  (λ n. spelled-two _ _ (c .before .before .before .before .before .before .before .tail-at .ensures)
+      (c .before .before .before .before .before .before .if1 .left) (c .before .before .before .before .before .if2 .left)
+      (c .before .before .before .before .tail-at2 .ensures) (c .before .before .before .if3 .left) (c .before .before .if4 .left)
+      (c .before .final-at .ensures) (c .if5 .taken)),
+  (λ n. record { least = omega arith; most = omega arith }),
+)
 
 add-t13 : tie.Need-add-t13
 add-t13 c =
@@ -82,11 +84,22 @@ add-t13 c =
     )
 
 returns-6 : tie.Need-returns-6
-returns-6 c =
-    λ n. spelled-three _ _ (c .before .before .before .before .before .before .before .tail-at .ensures)
-    (c .before .before .before .before .before .before .if1 .left) (c .before .before .before .before .before .if2 .left)
-    (c .before .before .before .before .tail-at2 .ensures) (c .before .before .before .if3 .left) (c .before .before .if4 .left)
-    (c .before .final-at .ensures) (c .if5 .left)
+returns-6 c = (
+  (λ n. spelled-three _ _ (c .before .before .before .before .before .before .before .tail-at .ensures)
+      (c .before .before .before .before .before .before .if1 .left) (c .before .before .before .before .before .if2 .left)
+      (c .before .before .before .before .tail-at2 .ensures) (c .before .before .before .if3 .left) (c .before .before .if4 .left)
+      (c .before .final-at .ensures) (c .if5 .left)),
+  (λ n. record {
+    least = omega arith;
+    most = omega (
+      arith,
+      last-few _ _
+          (c .before .before .before .before .before .before .before .tail-at .ensures) (c .before .before .before .before .before .before .if1 .left)
+          (c .before .before .before .before .before .if2 .left) (c .before .before .before .before .tail-at2 .ensures)
+          (c .before .before .before .if3 .left) (c .before .before .if4 .left) (c .before .final-at .ensures),
+    );
+  }),
+)
 
 pub letters-at-spec : {M : Type 1} → statement M
 letters-at-spec =

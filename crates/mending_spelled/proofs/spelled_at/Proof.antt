@@ -9,7 +9,7 @@ none-requires : tie.Need-none-requires
 none-requires c κs = search needs
 
 returns : tie.Need-returns
-returns c = spelled-none (c .none .ensures)
+returns c = (spelled-none (c .none .ensures), spelled-none (c .none .ensures))
 
 letters-at-requires : tie.Need-letters-at-requires
 letters-at-requires c κs = search needs

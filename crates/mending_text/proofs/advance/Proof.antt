@@ -19,11 +19,13 @@ same-length c = search needs
 returns : tie.Need-returns
 returns c = c .before .before .pass .ensures
 
-place-requires : tie.Need-place-requires
-place-requires c κs =
-    character-fits (c .before .before .before .before .before .before .pre)
-    (character-next _ _ (c .before .before .before .before .before .before .pre .inside)
-    (c .before .before .before .spelled-at .ensures (c .before .if1 .left)))
+set-requires : tie.Need-set-requires
+set-requires c κs = (
+  character-fits (c .before .before .before .before .before .before .pre)
+      (character-next _ _ (c .before .before .before .before .before .before .pre .inside)
+      (c .before .before .before .spelled-at .ensures .0 (c .before .if1 .left))),
+  c .before .before .before .spelled-at .ensures .1 (c .before .if1 .left),
+)
 
 same-length-2 : tie.Need-same-length-2
 same-length-2 c = search needs
@@ -31,8 +33,8 @@ same-length-2 c = search needs
 returns-2 : tie.Need-returns-2
 returns-2 c =
     character-moved (character-next _ _ (c .before .before .before .before .before .before .before .before .before .pre .inside)
-    (c .before .before .before .before .before .before .spelled-at .ensures (c .before .before .before .before .if1 .left)))
-    (c .before .before .place .ensures)
+    (c .before .before .before .before .before .before .spelled-at .ensures .0 (c .before .before .before .before .if1 .left)))
+    (c .before .before .set .ensures)
 
 pub advance-spec : {M : Type 1} → statement M
 advance-spec =
@@ -42,6 +44,6 @@ advance-spec =
     pass-requires
     same-length
     returns
-    place-requires
+    set-requires
     same-length-2
     returns-2)

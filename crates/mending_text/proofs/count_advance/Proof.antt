@@ -19,12 +19,12 @@ returns c = c .count-pass .ensures
 count-place-requires : tie.Need-count-place-requires
 count-place-requires c κs =
     count-fits (c .before .before .before .before .pre)
-    (character-next _ _ (c .before .before .before .before .pre .inside) (c .before .before .spelled-at .ensures (c .if1 .left)))
+    (character-next _ _ (c .before .before .before .before .pre .inside) (c .before .before .spelled-at .ensures .0 (c .if1 .left)))
 
 returns-2 : tie.Need-returns-2
 returns-2 c =
     count-character (character-next _ _ (c .before .before .before .before .before .pre .inside)
-    (c .before .before .before .spelled-at .ensures (c .before .if1 .left))) (c .count-place .ensures)
+    (c .before .before .before .spelled-at .ensures .0 (c .before .if1 .left))) (c .count-place .ensures)
 
 pub count-advance-spec : {M : Type 1} → statement M
 count-advance-spec =

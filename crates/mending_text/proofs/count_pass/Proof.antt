@@ -7,8 +7,8 @@ use borrow.Author.Needs.{needs}
 use Rattle.mending_text.proofs.count_pass.Statement.{statement}
 use Rattle.mending_text.proofs.count_pass.Tie as tie
 
-passing-requires : tie.Need-passing-requires
-passing-requires c κs = search needs
+run-requires : tie.Need-run-requires
+run-requires c κs = search needs
 
 character-at-requires : tie.Need-character-at-requires
 character-at-requires c κs = search needs
@@ -24,25 +24,25 @@ returns c =
     (c .count-place .ensures)
 
 sub-t7 : tie.Need-sub-t7
-sub-t7 c = c .before .passing .ensures (omega (arith, c .before .before .before .pre .inside)) .goes .on
+sub-t7 c = c .before .run .ensures (omega (arith, c .before .before .before .pre .inside)) .goes .on
 
 add-t8 : tie.Need-add-t8
 add-t8 c =
     omega (
       arith,
       passes-count (c .before .before .before .before .pre)
-          (c .before .before .passing .ensures (omega (arith, c .before .before .before .before .pre .inside))),
+          (c .before .before .run .ensures (omega (arith, c .before .before .before .before .pre .inside))),
     )
 
 returns-2 : tie.Need-returns-2
 returns-2 c =
-    count-passes (c .before .before .passing .ensures (omega (arith, c .before .before .before .before .pre .inside))) (c .before .if1 .left)
+    count-passes (c .before .before .run .ensures (omega (arith, c .before .before .before .before .pre .inside))) (c .before .if1 .left)
 
 pub count-pass-spec : {M : Type 1} → statement M
 count-pass-spec =
     tie.close
     (tie.spec
-    passing-requires
+    run-requires
     character-at-requires
     count-place-requires
     returns

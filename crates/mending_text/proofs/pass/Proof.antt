@@ -1,7 +1,6 @@
--- `mending_text::pass` meets its contract: where nothing passes a character is written, else what passes is copied.
+-- `mending_text::pass` meets its contract: where nothing passes one character is left to `make`, else what passes is copied.
 -- Assumes nothing.
-use Rattle.mending.proofs.Turns.{character-fits, character-moved, passes-room, passes-moved}
-use Rattle.mending.proofs.Characters.{character-next}
+use Rattle.mending.proofs.Turns.{passes-room, passes-moved}
 use native.Mathlib.Omega.{arith}
 use borrow.Author.Needs.{needs}
 use Rattle.mending_text.proofs.pass.Statement.{statement}
@@ -10,21 +9,14 @@ use Rattle.mending_text.proofs.pass.Tie as tie
 passing-requires : tie.Need-passing-requires
 passing-requires c κs = search needs
 
-character-at-requires : tie.Need-character-at-requires
-character-at-requires c κs = search needs
-
-place-requires : tie.Need-place-requires
-place-requires c κs =
-    character-fits (c .before .before .before .before .before .before .pre)
-    (character-next _ _ (c .before .before .before .before .before .before .pre .inside) (c .before .character-at .ensures))
+make-requires : tie.Need-make-requires
+make-requires c κs = c .before .before .before .before .before .pre
 
 same-length : tie.Need-same-length
 same-length c = search needs
 
 returns : tie.Need-returns
-returns c =
-    character-moved (character-next _ _ (c .before .before .before .before .before .before .before .before .before .pre .inside)
-    (c .before .before .before .before .character-at .ensures)) (c .before .before .place .ensures)
+returns c = c .before .before .make .ensures
 
 copy-requires : tie.Need-copy-requires
 copy-requires c κs = (
@@ -51,8 +43,7 @@ pass-spec =
     tie.close
     (tie.spec
     passing-requires
-    character-at-requires
-    place-requires
+    make-requires
     same-length
     returns
     copy-requires
