@@ -186,7 +186,7 @@ pub reads-syllable : {name : List ℕ} {s : ℕ} → ReadsName name (Syllable s)
 reads-syllable {name} f = done-says (takesBytes name) (named name) (f .answers)
 
 -- naming's check passes a syllable, and nothing else
-passes-syllable : (s : ℕ) → noSyllable s ≡ passes → isSyllable s ≡ true
+pub passes-syllable : (s : ℕ) → noSyllable s ≡ passes → isSyllable s ≡ true
 passes-syllable s e = test (isSyllable s) (λ h. h) (λ h. absurd (passes-refuses (sym e ∙ no-syllable-refuses s h)))
 
 -- a syllable is named where there is room

@@ -90,7 +90,7 @@ module _ (db std : Database) (In : ℕ → Type 0) (a : Agree db std In) where
   decomposed-in : {x : List ℕ} → All In x → All In (decomposed std x)
   decomposed-in h = all-each-of (applied std (std .depth)) (applied-in (std .depth)) h
 
-  decomposed-agree : Sound db → Sound std → {x : List ℕ} → All In x → decomposed db x ≡ decomposed std x
+  pub decomposed-agree : Sound db → Sound std → {x : List ℕ} → All In x → decomposed db x ≡ decomposed std x
   decomposed-agree s t h =
       each-agree (applied db (db .depth)) (applied std (std .depth))
       (λ c k.

@@ -35,7 +35,7 @@ unfolding partsTo
 applied-parts zero c = refl
 applied-parts (suc d) c = rw (← (step-mapping c)) (each-same (applied jamo d) (partsTo d) (applied-parts d) (oneStep c))
 
-decomposed-parts : (x : List ℕ) → decomposed jamo x ≡ fullParts x
+pub decomposed-parts : (x : List ℕ) → decomposed jamo x ≡ fullParts x
 decomposed-parts x = each-same (applied jamo 2) (partsTo 2) (applied-parts 2) x
 
 -- with one class beside 0 there is no reorderable pair

@@ -1,11 +1,12 @@
 -- THE THEOREMS of this crate, for every database that says of document 01's repertoire what the UCD says, and for every text of that repertoire: full
 -- parts are NFD, joined text is NFC, and two texts are canonically equivalent exactly when they join to the same text.
--- Not here: texts with other characters, and the UCD's files themselves, to which specs/Repertoire's record is to be compared.
+-- And of every text, whatever its characters: its full parts have its NFD. Not here: more of texts with other characters, and the UCD's files themselves, to
+-- which specs/Repertoire's record is to be compared.
 --
--- In order: taking apart and composing stay in the repertoire; every such database agrees with `jamo` there; `parts-are-nfd`, `joined-is-nfc` and
--- `equivalent-joined`; and that there is such a database (`jamo-ucd`).
+-- In order: taking apart and composing stay in the repertoire; every such database agrees with `jamo` there; `parts-are-nfd`, `nfd-of-parts`,
+-- `joined-is-nfc` and `equivalent-joined`; and that there is such a database (`jamo-ucd`).
 -- Assumes nothing.
-use mathlib.Core.Path.{_≡_, refl, sym, _∙_}
+use mathlib.Core.Path.{_≡_, refl, sym, _∙_, ap}
 use mathlib.Core.Bool.{true, false}
 use mathlib.Core.Logic.{inl, inr, ⊎-elim, _↔_}
 use mathlib.Core.Option.{some}
@@ -14,22 +15,22 @@ use Prim.Native.Nat.{ℕ, _≤_, _<_}
 use Rattle.laws.specs.Lists.{All, also}
 use Rattle.laws.specs.Ranges.{within}
 use Rattle.laws.proofs.Bools.{test}
-use Rattle.laws.proofs.Lists.{all-map, each-one}
+use Rattle.laws.proofs.Lists.{all-map, each-one, each-each, each-same}
 use Rattle.laws.proofs.Ranges.{within-least, within-most, within-not}
 use Rattle.letters.specs.Syllables.{isSyllable, partsOf, fullParts}
 use Rattle.letters.specs.Chapter3.{precomposed, mapping}
 use Rattle.letters.proofs.Steps.{syllable-least, syllable-most, step-other}
-use Rattle.letters.proofs.Parts.{parts-other}
+use Rattle.letters.proofs.Parts.{parts-other, full-full}
 use Rattle.letters.proofs.Chapter3.{precomposed-is, step-mapping}
 use Rattle.joining.specs.Joining.{join}
-use Rattle.normal.specs.Forms.{Database, nfd, nfc, Equivalent, Primary}
+use Rattle.normal.specs.Forms.{Database, applied, decomposed, ordered, nfd, nfc, Equivalent, Primary}
 use Rattle.normal.specs.Jamo.{toneClass, composite, jamo}
 use Rattle.normal.specs.Repertoire.{Repertoire, letter, whole, Ucd}
 use Rattle.joining.proofs.Joins.{same-parts, same-join}
 use Rattle.normal.proofs.Steps.{two-syllable, Part, letter as part-letter, whole as part-whole, step-parts}
-use Rattle.normal.proofs.Agreement.{Agree, AgreePairs, nfd-agree, nfc-agree, pairs-agree}
+use Rattle.normal.proofs.Agreement.{Agree, AgreePairs, decomposed-agree, nfd-in, nfd-agree, nfc-agree, pairs-agree}
 use Rattle.normal.proofs.Jamo.{class-tone, class-below, class-above, composite-step}
-use Rattle.normal.proofs.Conjoining.{nfd-parts, nfc-join}
+use Rattle.normal.proofs.Conjoining.{decomposed-parts, nfd-parts, nfc-join}
 use Rattle.normal.proofs.Composites.{jamo-sound, jamo-exact, jamo-inverse}
 
 -- ---- taking apart and composing stay in the repertoire
@@ -83,6 +84,29 @@ module _ (ucd : Database) (u : Ucd ucd) where
   -- FULL PARTS ARE NFD
   pub parts-are-nfd : (t : List ℕ) → All Repertoire t → nfd ucd t ≡ fullParts t
   parts-are-nfd t h = nfd-agree ucd jamo Repertoire agrees (u .sound) jamo-sound h ∙ nfd-parts t
+
+  -- OF EVERY TEXT, whatever characters it has, the full parts have the text's NFD: a syllable is of the repertoire, and any other character is its own part
+  parts-decomposed : (c : ℕ) → decomposed ucd (partsOf c) ≡ applied ucd (ucd .depth) c
+  parts-decomposed c = test (isSyllable c) apart alone
+    where
+      of-parts : {x : List ℕ} → All Repertoire x → decomposed ucd x ≡ fullParts x
+      of-parts {x} h = decomposed-agree ucd jamo Repertoire agrees (u .sound) jamo-sound h ∙ decomposed-parts x
+
+      apart : isSyllable c ≡ true → decomposed ucd (partsOf c) ≡ applied ucd (ucd .depth) c
+      apart h =
+          let one : All Repertoire (c ∷ []) = also (syllable-in c h) All.none in
+          let is : fullParts (c ∷ []) ≡ partsOf c = each-one partsOf c in
+          let within-it : All Repertoire (fullParts (c ∷ [])) = rw (nfd-parts (c ∷ [])) at (nfd-in ucd jamo Repertoire agrees one) in
+          rw (← is) (of-parts within-it ∙ full-full (c ∷ []) ∙ sym (of-parts one) ∙ each-one (applied ucd (ucd .depth)) c)
+
+      alone : isSyllable c ≡ false → decomposed ucd (partsOf c) ≡ applied ucd (ucd .depth) c
+      alone h = rw (parts-other 2 c h) (each-one (applied ucd (ucd .depth)) c)
+
+  pub nfd-of-parts : (x : List ℕ) → nfd ucd (fullParts x) ≡ nfd ucd x
+  nfd-of-parts x =
+      ap (ordered ucd)
+      (each-each (applied ucd (ucd .depth)) partsOf x
+      ∙ each-same (λ c. decomposed ucd (partsOf c)) (applied ucd (ucd .depth)) parts-decomposed x)
 
   -- JOINED TEXT IS NFC
   pub joined-is-nfc : (t : List ℕ) → All Repertoire t → nfc ucd t ≡ join t

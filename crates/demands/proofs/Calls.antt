@@ -1,0 +1,323 @@
+-- Demand 1 holds of every public call: a term for each row of specs/Calls, in the same order and under the same headings, by the law of its shape.
+-- Not here: the laws over any checks (proofs/Demand1).
+--
+-- Before the rows: a check and an image left by it in the words of the other crates (`as-verdict`, `changed-kept`); answers for C, where 0 says that
+-- the call is done, and no refusal has that number (`Numbered`, `ForC`). Assumes nothing.
+use mathlib.Core.Path.{_≡_, refl, _∙_, ap}
+use mathlib.Core.Bool.{Bool, true, false, cond}
+use mathlib.Core.Option.{Option, none, some}
+use mathlib.Core.List.{List, [], _∷_}
+use Prim.Native.Nat.{ℕ, zero, suc}
+use lib.Dec.{ltb}
+use lib.ListN.{length}
+use Rattle.laws.specs.Writing.{front}
+use Rattle.answers.specs.Checks.{Check, passes, refuses, inOrder, overLimit, badCodePoint, noRoom, takesText, takesBytes}
+use Rattle.answers.specs.Verdicts.{Verdict, done, refused, verdict, after, fits}
+use Rattle.answers.specs.Answers.{Makes}
+use Rattle.answers.specs.declared.Filled.{Filled}
+use Rattle.letters.specs.Syllables.{isSyllable, fullParts}
+use Rattle.joining.specs.Joining.{join as joins}
+use Rattle.utf8.specs.Utf8.{readText, writeText}
+use Rattle.utf8.specs.Reading.{Reads}
+use Rattle.utf8.specs.declared.read.Read.{Read}
+use Rattle.mending.specs.Mending.{mended}
+use Rattle.names.specs.Names.{nameOf, named}
+use Rattle.names.specs.Naming.{noSyllable, noName}
+use Rattle.clusters.specs.Simple.{simple}
+use Rattle.clusters.specs.Gathering.{gathered}
+use Rattle.fillers.specs.Groups.{turned}
+use Rattle.ranking.specs.Ranking.{orderNumber, takesTwo, takesTwoBytes}
+use Rattle.labels.specs.Records.{layout}
+use Rattle.labels.specs.Images.{countOf, recordAt, overImage, noImage, noRecord, layoutsFrom, takesRecord, takesImage, noLabel, takesWriting, changed}
+use Rattle.pulphopper.specs.Replies.{countedAnswer, plainAnswer, orderAnswer}
+use Rattle.pulphopper.specs.declared.Answer.{Answer}
+use Rattle.demands.specs.Demand1.{Demand1}
+use Rattle.demands.specs.Calls as rows
+use Rattle.demands.proofs.Demand1.{kept, after-kept, demanded, answered, answered-one, answers-done, filled-demanded, filled-alone}
+
+-- ---- in the words of the other crates
+
+as-verdict : (check : Check) → rows.asVerdict check ≡ verdict check tt
+as-verdict passes = refl
+as-verdict (refuses number place) = refl
+
+changed-kept : (check : Check) (image image′ : List ℕ) → changed check image image′ ≡ kept check image image′
+changed-kept passes image image′ = refl
+changed-kept (refuses number place) image image′ = refl
+
+-- ---- answers for C
+
+-- a refusal's number is not 0
+abbrev Numbered : Check → Type 0
+Numbered passes = Unit {0}
+Numbered (refuses zero place) = ⊥
+Numbered (refuses (suc n) place) = Unit {0}
+
+numbered-both : (a b : Check) → Numbered a → Numbered b → Numbered (inOrder (a ∷ b ∷ []))
+numbered-both passes passes h k = tt
+numbered-both passes (refuses zero place) h k = k
+numbered-both passes (refuses (suc n) place) h k = tt
+numbered-both (refuses zero place) b h k = h
+numbered-both (refuses (suc n) place) b h k = tt
+
+numbered-either : (b : Bool) (x y : Check) → Numbered x → Numbered y → Numbered (cond b x y)
+numbered-either true x y h k = h
+numbered-either false x y h k = k
+
+limit-numbered : (limit size : ℕ) → Numbered (overLimit limit size)
+unfolding overLimit
+limit-numbered limit size = numbered-either (ltb limit size) (refuses 1 limit) passes tt tt
+
+room-numbered : (room needed : ℕ) → Numbered (noRoom room needed)
+unfolding noRoom
+room-numbered room needed = numbered-either (ltb room needed) (refuses 3 needed) passes tt tt
+
+syllable-numbered : (code : ℕ) → Numbered (noSyllable code)
+unfolding noSyllable
+syllable-numbered code = numbered-either (isSyllable code) passes (refuses 4 0) tt tt
+
+name-numbered : (o : Option ℕ) → Numbered (noName o)
+name-numbered none = tt
+name-numbered (some s) = tt
+
+-- how a verdict is told to C, and what two numbers stand for its value
+record ForC {Value : Type 0} (tells : Verdict Value → Answer) (value : Value → ℕ × ℕ) : Type 0 where
+  is-done : (v : Value) → rows.asC (tells (done v)) ≡ done (value v)
+  is-refused : (number place : ℕ) → tells (refused number place) ≡ record { refusal = number; count = 0; value = place }
+
+counted-for-c : ForC countedAnswer (λ c. (c .length, c .ills))
+counted-for-c = record { is-done = λ v. refl; is-refused = λ number place. refl }
+
+plain-for-c : ForC plainAnswer (λ v. (v, 0))
+plain-for-c = record { is-done = λ v. refl; is-refused = λ number place. refl }
+
+order-for-c : ForC orderAnswer (λ o. (orderNumber o, 0))
+order-for-c = record { is-done = λ v. refl; is-refused = λ number place. refl }
+
+module _ {Value : Type 0} {tells : Verdict Value → Answer} {value : Value → ℕ × ℕ} (c : ForC tells value) where
+  as-c : (check : Check) → Numbered check → (v : Value) → rows.asC (tells (verdict check v)) ≡ verdict check (value v)
+  as-c passes h v = c .is-done v
+  as-c (refuses zero place) h v = absurd h
+  as-c (refuses (suc n) place) h v = ap rows.asC (c .is-refused (suc n) place)
+
+  module _ {v : Value} {r : Answer} where
+    answered-for-c : (a b : Check) → Numbered a → Numbered b → r ≡ tells (verdict (inOrder (a ∷ b ∷ [])) v)
+        → Demand1 {A = ℕ} (a ∷ b ∷ []) (value v) [] [] (rows.asC r) []
+    answered-for-c a b h k e = answered (a ∷ b ∷ []) refl (ap rows.asC e ∙ as-c (inOrder (a ∷ b ∷ [])) (numbered-both a b h k) v)
+
+    filled-for-c : (before : Check) (whole out : List ℕ) {out′ : List ℕ} → Numbered before → r ≡ tells (verdict (fits before whole out) v)
+        → out′ ≡ after (fits before whole out) whole out
+        → Demand1 (before ∷ noRoom (length out) (length whole) ∷ []) (value v) out (front whole out) (rows.asC r) out′
+    filled-for-c before whole out h e q =
+        let room : Check = noRoom (length out) (length whole) in
+        demanded (before ∷ room ∷ [])
+        (ap rows.asC e ∙ as-c (fits before whole out) (numbered-both before room h (room-numbered (length out) (length whole))) v)
+        (q ∙ after-kept (fits before whole out) whole out)
+
+-- ---- answers
+
+pub tell : rows.Tell
+tell refusal r e = answers-done e
+
+pub refusal-line : rows.RefusalLine
+refusal-line refusal r h e = answers-done e
+
+pub is-bad : rows.IsBad
+is-bad code r e = answers-done e
+
+pub first-bad : rows.FirstBad
+first-bad text r e = answers-done e
+
+pub check-text : rows.CheckText
+unfolding takesText
+check-text text r e =
+    answered (overLimit 16384 (length text) ∷ badCodePoint text ∷ []) refl (ap rows.asVerdict e ∙ as-verdict (takesText text))
+
+pub check-bytes : rows.CheckBytes
+unfolding takesBytes
+check-bytes bytes r e = answered-one (ap rows.asVerdict e ∙ as-verdict (takesBytes bytes))
+
+-- ---- letters
+
+pub sort-of : rows.SortOf
+sort-of code r e = answers-done e
+
+pub sorter : rows.Sorter
+sorter code r e = answered-one e
+
+pub parts-of : rows.PartsOf
+parts-of code r e = answers-done e
+
+pub one-step : rows.OneStep
+one-step code r e = answered-one e
+
+-- ---- what a call from text to text promises, and one from bytes
+
+of-text : (make : List ℕ → List ℕ) (text out out′ : List ℕ) (r : Filled) → Makes make text out r out′ → rows.OfText make text out r out′
+unfolding takesText
+of-text make text out out′ r h = filled-demanded (overLimit 16384 (length text) ∷ badCodePoint text ∷ []) refl (h .fills)
+
+of-bytes : (make : List ℕ → List ℕ) (text out out′ : List ℕ) (r : Read) → Reads make text out r out′ → rows.OfBytes make text out r out′
+unfolding takesBytes
+of-bytes make text out out′ r h = filled-alone (h .fills)
+
+pub full-parts : rows.FullParts
+full-parts = of-text fullParts
+
+-- ---- joining
+
+pub role-of : rows.RoleOf
+role-of code r e = answers-done e
+
+pub joined : rows.Joined
+joined first second r e = answers-done e
+
+pub new : rows.New
+new r e = answers-done e
+
+pub steps : rows.Steps
+steps self code r h = answers-done (rw (h .opens, h .writes))
+
+pub flush : rows.Flush
+flush self r e = answers-done e
+
+pub join : rows.Join
+join = of-text joins
+
+-- ---- utf8
+
+pub read-at : rows.ReadAt
+read-at text at r e = answers-done e
+
+pub read-text : rows.ReadText
+read-text = of-bytes readText
+
+pub size-of : rows.SizeOf
+size-of code r e = answers-done e
+
+pub put-at : rows.PutAt
+put-at code out at out′ r h = demanded [] (ap done (h .behind)) (h .holds)
+
+pub write-text : rows.WriteText
+write-text = of-text writeText
+
+-- ---- mending
+
+pub character-at : rows.CharacterAt
+character-at text at r e = answers-done e
+
+pub quick-character-at : rows.QuickCharacterAt
+quick-character-at text at r e = answers-done e
+
+pub mend : rows.Mend
+mend = of-bytes mended
+
+-- ---- names
+
+pub name : rows.Name
+name code out out′ r h = filled-alone (h .fills)
+
+pub read-name : rows.ReadName
+unfolding takesBytes
+read-name name r h = answered (overLimit 16384 (length name) ∷ noName (named name) ∷ []) refl (h .answers)
+
+-- ---- clusters, fillers
+
+pub simple-form : rows.SimpleForm
+simple-form = of-text simple
+
+pub gathered-form : rows.GatheredForm
+gathered-form = of-text gathered
+
+pub turn : rows.Turn
+turn = of-text turned
+
+-- ---- listing
+
+pub list-lines : rows.ListLines
+unfolding takesBytes
+list-lines text out out′ r h = filled-alone (h .fills)
+
+-- ---- ranking
+
+pub compared : rows.Compared
+compared first second r e = answers-done e
+
+pub followed : rows.Followed
+followed order next r e = answers-done e
+
+pub number-of : rows.NumberOf
+number-of order r e = answers-done e
+
+pub rank : rows.Rank
+unfolding takesTwo
+rank first second r h =
+    answered (overLimit 16384 (length first) ∷ overLimit 16384 (length second) ∷ badCodePoint first ∷ badCodePoint second ∷ []) refl (h .answers)
+
+pub rank-bytes : rows.RankBytes
+unfolding takesTwoBytes takesBytes
+rank-bytes first second r h = answered (overLimit 16384 (length first) ∷ overLimit 16384 (length second) ∷ []) refl (h .answers)
+
+-- ---- the label file
+
+-- the checks of a whole image
+abbrev ofImage : List ℕ → List Check
+ofImage image = overLimit 65472 (length image) ∷ noImage image ∷ layoutsFrom image 0 (countOf image) ∷ []
+
+image-checks : (image : List ℕ) → takesImage image ≡ inOrder (ofImage image)
+unfolding takesImage overImage
+image-checks image = refl
+
+pub fresh : rows.Fresh
+fresh r h e = answers-done e
+
+pub read-record : rows.ReadRecord
+unfolding takesRecord overImage
+read-record image number out out′ r h =
+    filled-demanded (overLimit 65472 (length image) ∷ noRecord image number ∷ layout (recordAt image number) ∷ []) refl (h .fills)
+
+pub read-image : rows.ReadImage
+read-image image r h = (answered (ofImage image) (image-checks image) (h .answers), h .names)
+
+pub label-at : rows.LabelAt
+label-at image number r e = answers-done e
+
+pub berth-at : rows.BerthAt
+berth-at image number r e = answers-done e
+
+pub write-record : rows.WriteRecord
+unfolding takesWriting overImage takesBytes
+write-record image number object berth form label image′ r h =
+    demanded (overLimit 65472 (length image) ∷ overLimit 16384 (length label) ∷ noRecord image number ∷ noLabel form label ∷ [])
+    (ap rows.asVerdict (h .answers) ∙ as-verdict (takesWriting image number form label))
+    (h .leaves ∙ changed-kept (takesWriting image number form label) image _)
+
+-- ---- sorting
+
+pub order-records : rows.OrderRecords
+order-records image out out′ r h = (filled-demanded (ofImage image) (image-checks image) (h .fills), h .names)
+
+pub print : rows.Print
+print image out out′ r h = (filled-demanded (ofImage image) (image-checks image) (h .fills), h .names)
+
+-- ---- the calls for C
+
+pub mend-for-c : rows.MendForC
+unfolding takesBytes
+mend-for-c text out out′ r h =
+    filled-for-c counted-for-c (overLimit 16384 (length text)) (mended text) out (limit-numbered 16384 (length text)) (h .answers) (h .leaves)
+
+pub name-for-c : rows.NameForC
+name-for-c code out out′ r h = filled-for-c plain-for-c (noSyllable code) (nameOf code) out (syllable-numbered code) (h .answers) (h .leaves)
+
+pub read-name-for-c : rows.ReadNameForC
+unfolding takesBytes
+read-name-for-c name r h =
+    answered-for-c plain-for-c (overLimit 16384 (length name)) (noName (named name)) (limit-numbered 16384 (length name)) (name-numbered (named name))
+    (h .answers)
+
+pub rank-for-c : rows.RankForC
+unfolding takesTwoBytes takesBytes
+rank-for-c first second r h =
+    answered-for-c order-for-c (overLimit 16384 (length first)) (overLimit 16384 (length second)) (limit-numbered 16384 (length first))
+    (limit-numbered 16384 (length second)) (h .answers)

@@ -1,0 +1,80 @@
+-- Demand 2: what a call that is done wrote is what the Standard defines, and what undoes what.
+-- Not here: that the definitions are the Standard's (crates letters, normal, utf8, names). Assumes nothing.
+use mathlib.Core.Path.{_≡_, sym, _∙_, ap}
+use mathlib.Core.List.{List, [], _∷_}
+use Prim.Native.Nat.{ℕ, _+_}
+use native.Mathlib.Omega.{arith}
+use lib.ListN.{length, take, drop}
+use lib.Seq.{take-append-seam}
+use Rattle.laws.specs.Pieces.{pieces}
+use Rattle.answers.specs.Checks.{Check, passes, refuses, badCodePoint}
+use Rattle.answers.specs.Verdicts.{done, verdict, Fills}
+use Rattle.answers.specs.Answers.{Makes}
+use Rattle.answers.specs.declared.Filled.the-variants.{Done}
+use Rattle.answers.proofs.Verdicts.{done-not-refused, fills-done}
+use Rattle.letters.proofs.Steps.{index-made}
+use Rattle.letters.proofs.Chapter3.{step-mapping, full-decomposition}
+use Rattle.joining.proofs.Calls.{parts-call}
+use Rattle.normal.proofs.Conjoining.{nfc-join}
+use Rattle.normal.proofs.Repertoire.{joined-is-nfc}
+use Rattle.utf8.specs.Table37.{kindOf}
+use Rattle.utf8.proofs.Reading.{reading8, reading8-unique}
+use Rattle.names.specs.Names.{nameOf}
+use Rattle.names.proofs.Lengths.{syllable-name-most}
+use Rattle.names.proofs.NR1.{name-nr1}
+use Rattle.names.proofs.Found.{passes-syllable, names-whole, names-unique, read-named as call-named, name-read as call-read}
+use Rattle.demands.specs.Demand2 as demand
+
+-- what a call that is done filled: the front of the buffer, as long as the whole
+filled : {A Value : Type 0} {before : Check} {whole out out′ : List A} {value answer : Value} → Fills before whole value out (done answer) out′
+    → {n : ℕ} → n ≡ length whole → take n out′ ≡ whole
+filled {whole = whole} {out = out} f e = rw (e, fills-done f .2) (take-append-seam whole (drop (length whole) out))
+
+made : (make : List ℕ → List ℕ) {text out out′ : List ℕ} {n : ℕ} → Makes make text out (Done n) out′ → take n out′ ≡ make text
+made make h = filled (h .fills) (fills-done (h .fills) .1)
+
+-- what a call that is done answers
+answer-is : {Value : Type 0} {answer value : Value} (check : Check) → done answer ≡ verdict check value → answer ≡ value
+answer-is passes e = cc
+answer-is (refuses number place) e = absurd (done-not-refused e)
+
+pub one-step-is : demand.OneStepIs
+one-step-is code parts e = answer-is (badCodePoint (code ∷ [])) e ∙ step-mapping code
+
+pub taking-apart : demand.TakingApart
+taking-apart text out out′ n h = made _ h ∙ full-decomposition text
+
+pub joining : demand.Joining
+joining text out out′ n h = made _ h ∙ sym (nfc-join text)
+
+pub joining-ucd : demand.JoiningUcd
+joining-ucd ucd u text out out′ n all h = made _ h ∙ sym (joined-is-nfc ucd u text all)
+
+pub reading-utf8 : demand.ReadingUtf8
+reading-utf8 text out out′ c h =
+    let d = fills-done (h .fills) in
+    record {
+      pieces = pieces kindOf text;
+      read = reading8 text;
+      codes-are = λ P r. filled (h .fills) (ap (λ c. c .length) (d .1)) ∙ rw (reading8-unique r);
+      ills-are = λ P r. ap (λ c. c .ills) (d .1) ∙ rw (reading8-unique r);
+    }
+
+pub naming : demand.Naming
+naming code out out′ n h =
+    let d = fills-done (h .fills) in
+    filled (h .fills) (d .1) ∙ name-nr1 code (passes-syllable code (d .0))
+
+pub read-named : demand.ReadNamed
+read-named s n out out′ r h k = call-named h k
+
+pub name-read : demand.NameRead
+name-read s name out out′ r h room k = call-read h room k
+
+pub all-named : demand.AllNamed
+all-named index small out out′ r room h =
+    let is = index-made index (omega arith) .0 in
+    (length (nameOf (0xAC00 + index)), names-unique h (names-whole (0xAC00 + index) is (omega (arith, syllable-name-most (0xAC00 + index) is))) .0)
+
+pub joining-parts : demand.JoiningParts
+joining-parts text out o p r s good short h k = parts-call text out good short h k
