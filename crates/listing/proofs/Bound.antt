@@ -27,7 +27,7 @@ module _ (c : ℕ) where
   -- four digits and a name
   line-named : isSyllable c ≡ true → length (lineOf c) ≤ 29
   line-named s =
-      omega (arith, line-size, hex-long c (omega (arith, syllable-most c s)), ap length (name-yes c s), syllable-name-most c s)
+      omega (arith, line-size, hex-long c (omega (arith, syllable-most c s)), ap length (name-yes c s), syllable-name-most c)
 
   -- six digits and -
   pub line-few : isSyllable c ≡ false → length (lineOf c) ≤ 9

@@ -200,7 +200,7 @@ read-named {s} {k} {out} {out′} f g =
     let h = fills-done (f .fills) in
     let is = passes-syllable s (h .0) in
     let front-is : take k out′ ≡ nameOf s = rw (h .1, h .2) (take-append-seam (nameOf s) (drop (length (nameOf s)) out)) in
-    reads-name-unique (rw front-is at g) (reads-some (bytes-taken (nameOf s) (omega (arith, syllable-name-most s is))) (named-some s is))
+    reads-name-unique (rw front-is at g) (reads-some (bytes-taken (nameOf s) (omega (arith, syllable-name-most s))) (named-some s is))
 
 -- A NAME THAT IS READ IS THE SYLLABLE'S
 pub name-read : {name out out′ : List ℕ} {s : ℕ} {r : Filled} → ReadsName name (Syllable s) → length name ≤ length out → Names s out r out′

@@ -1,16 +1,19 @@
 -- How long a name is. In order: a list of strings by one computed test; an initial's and a final's string has at most 2 bytes, a peak's 1 to 3;
--- so a name has 17 to 23 bytes, by I, P and F (`name-least`, `name-most`) and of a syllable (`syllable-name-least`, `syllable-name-most`).
+-- so a name has 17 to 23 bytes, by I, P and F (`name-least`, `name-most`) and of a syllable (`syllable-name-least`, `syllable-name-most`). That it has at
+-- most so many asks nothing of the indices, since behind a list's last row the string is empty.
 -- Not here: the length as a sum (`name-size` of proofs/Writing). Assumes nothing.
-use mathlib.Core.Path.{_≡_}
+use mathlib.Core.Path.{_≡_, ap}
 use mathlib.Core.Bool.{Bool, true}
 use mathlib.Core.List.{List, []}
 use Prim.Native.Nat.{ℕ, _≤_, _<_}
 use native.Mathlib.Omega.{arith}
-use lib.Dec.{T, leb, leb→le}
-use lib.ListN.{length, getD}
+use lib.Dec.{T, leb, ltb, leb→le}
+use lib.ListN.{length, getD, List·getD-eq-default}
+use borrow.Author.Tests.{ltb-true, ltb-false}
+use Rattle.laws.proofs.Bools.{test}
 use Rattle.laws.proofs.Tables.{every, every-at}
 use Rattle.letters.specs.Syllables.{isSyllable, initialOf, peakOf, finalOf}
-use Rattle.letters.proofs.Steps.{syllable-least, syllable-most, initial-below, peak-below, final-below}
+use Rattle.letters.proofs.Steps.{syllable-least, syllable-most, peak-below}
 use Rattle.names.specs.Names.{initials, peaks, finals, nameBy, nameOf}
 use Rattle.names.proofs.Writing.{name-size}
 
@@ -22,51 +25,46 @@ atLeast n row string = leb n (length string)
 abbrev atMost : ℕ → ℕ → List ℕ → Bool
 atMost n row string = leb (length string) n
 
-module _ (n : ℕ) (strings : List (List ℕ)) (row : ℕ) (h : row < length strings) where
-  long : T (every (atLeast n) 0 strings) → n ≤ length (getD strings row [])
-  long t = leb→le _ _ (every-at (atLeast n) [] strings t row h)
+module _ (n : ℕ) (strings : List (List ℕ)) (row : ℕ) where
+  long : T (every (atLeast n) 0 strings) → row < length strings → n ≤ length (getD strings row [])
+  long t h = leb→le _ _ (every-at (atLeast n) [] strings t row h)
 
+  -- behind the last row the string is empty
   short : T (every (atMost n) 0 strings) → length (getD strings row []) ≤ n
-  short t = leb→le _ _ (every-at (atMost n) [] strings t row h)
+  short t =
+      test (ltb row (length strings)) (λ h. leb→le _ _ (every-at (atMost n) [] strings t row (ltb-true _ _ h)))
+      (λ h. omega (arith, ap length (List·getD-eq-default strings [] (ltb-false row (length strings) h))))
 
 -- ---- the three lists
 
-pub initial-most : (i : ℕ) → i < 19 → length (getD initials i []) ≤ 2
+pub initial-most : (i : ℕ) → length (getD initials i []) ≤ 2
 unfolding initials
-initial-most i h = short 2 initials i h tt
+initial-most i = short 2 initials i tt
 
 pub peak-least : (p : ℕ) → p < 21 → 1 ≤ length (getD peaks p [])
 unfolding peaks
-peak-least p h = long 1 peaks p h tt
+peak-least p h = long 1 peaks p tt h
 
-pub peak-most : (p : ℕ) → p < 21 → length (getD peaks p []) ≤ 3
+pub peak-most : (p : ℕ) → length (getD peaks p []) ≤ 3
 unfolding peaks
-peak-most p h = short 3 peaks p h tt
+peak-most p = short 3 peaks p tt
 
-pub final-most : (f : ℕ) → f < 28 → length (getD finals f []) ≤ 2
+pub final-most : (f : ℕ) → length (getD finals f []) ≤ 2
 unfolding finals
-final-most f h = short 2 finals f h tt
+final-most f = short 2 finals f tt
 
 -- ---- the names
 
-module _ (i p f : ℕ) (hi : i < 19) (hp : p < 21) (hf : f < 28) where
-  pub name-least : 17 ≤ length (nameBy i p f)
-  name-least = omega (arith, name-size i p f, peak-least p hp)
+module _ (i p f : ℕ) where
+  pub name-least : p < 21 → 17 ≤ length (nameBy i p f)
+  name-least h = omega (arith, name-size i p f, peak-least p h)
 
   pub name-most : length (nameBy i p f) ≤ 23
-  name-most = omega (arith, name-size i p f, initial-most i hi, peak-most p hp, final-most f hf)
+  name-most = omega (arith, name-size i p f, initial-most i, peak-most p, final-most f)
 
-module _ (s : ℕ) (syllable : isSyllable s ≡ true) where
-  least : 0xAC00 ≤ s
-  least = syllable-least s syllable
-
-  most : s ≤ 0xD7A3
-  most = syllable-most s syllable
-
-  pub syllable-name-least : 17 ≤ length (nameOf s)
-  syllable-name-least =
-      name-least (initialOf s) (peakOf s) (finalOf s) (initial-below s least most) (peak-below s least most) (final-below s least most)
+module _ (s : ℕ) where
+  pub syllable-name-least : isSyllable s ≡ true → 17 ≤ length (nameOf s)
+  syllable-name-least h = name-least (initialOf s) (peakOf s) (finalOf s) (peak-below s (syllable-least s h) (syllable-most s h))
 
   pub syllable-name-most : length (nameOf s) ≤ 23
-  syllable-name-most =
-      name-most (initialOf s) (peakOf s) (finalOf s) (initial-below s least most) (peak-below s least most) (final-below s least most)
+  syllable-name-most = name-most (initialOf s) (peakOf s) (finalOf s)

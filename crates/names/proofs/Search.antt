@@ -1,26 +1,32 @@
 -- What the search of a name compares, and what it has passed over. In order: a string by value, and that it is as long as the table's
--- (`spells-size`); how a name goes on with it from an index on, letter by letter; how a name begins with the prefix, letter by letter (`PrefixTo`);
--- a name's three strings at their indices, not there (`prefix-miss` to `final-miss`) and there (`name-there`); what a search of a table's rows
--- keeps (`Tried`), and what the three searches do (`Initials`, `Peaks`, `Finals`). Each law concludes what the code's next turn, or its return, asks.
+-- (`spells-size`); how a name goes on with it from an index on, letter by letter; a vowel letter at an index, and whether a string fits there (`fits-not`,
+-- `fits-as`); how a name begins with the prefix, letter by letter (`PrefixTo`); EVERY PEAK BEGINS WITH A VOWEL LETTER AND NO FINAL DOES (`peak-first`,
+-- `final-first`), so that no name is lost where the letter behind a string does not fit; a name's three strings at their indices, not there (`prefix-miss`
+-- to `final-miss`) and there (`name-there`); what a search of a table's rows keeps (`Tried`), and what the three searches do (`Initials`, `Peaks`,
+-- `Finals`). Each law concludes what the code's next turn, or its return, asks.
 -- Not here: which syllable has a name (proofs/Found). Assumes nothing.
 use mathlib.Core.Path.{_≡_, refl, sym, _∙_, ap}
-use mathlib.Core.Bool.{Bool, true, false, cond}
+use mathlib.Core.Bool.{Bool, true, false, cond, Bool·beq, true≢false}
 use mathlib.Core.List.{List, [], _∷_, _++_}
+use mathlib.Core.Logic.{_⊎_, inl, inr}
 use Prim.Native.Nat.{ℕ, suc, _+_, _-_, _≤_, _<_}
 use native.Mathlib.Omega.{arith}
 use lib.Dec.{eqb}
 use lib.ListN.{length, getD, take, drop, length-drop, drop-of-length-le}
-use lib.Seq.{drop-drop, drop-append-seam}
-use borrow.Author.Tests.{eqb-true, eqb-false}
+use lib.Seq.{drop-drop, drop-cons, drop-append-seam}
+use borrow.Author.Tests.{eqb-true, eqb-false, ne-eqb}
 use borrow.Author.Count.{below-more}
+use Rattle.laws.specs.Lists.{All, also}
 use Rattle.laws.specs.Strings.{same, begins, picked}
-use Rattle.laws.proofs.Bools.{test}
-use Rattle.laws.proofs.Strings.{same-true, same-false, same-begins, same-other-length, begins-behind, begins-false, begins-least, begins-short}
+use Rattle.laws.proofs.Bools.{test, and-left}
+use Rattle.laws.proofs.Lists.{all-at}
+use Rattle.laws.proofs.Strings.{same-true, same-false, same-begins, same-other-length, begins-append, begins-behind, begins-false, begins-least, begins-short}
 use Rattle.laws.proofs.Strings.{begins-here, begins-not-here, begins-on, begins-not-on}
-use Rattle.names.specs.Names.{initials, peaks, finals, prefix, nameBy}
-use Rattle.names.specs.Naming.{stringOf, Spells}
+use Rattle.names.specs.Names.{initials, peaks, finals, prefix, nameBy, vowel}
+use Rattle.names.specs.Naming.{stringOf, Spells, vowelFirst, fitting}
 use Rattle.names.specs.declared.strings.Part.{Part}
 use Rattle.names.proofs.Rows.{string-size, spells-size}
+use Rattle.names.proofs.Unique.{name-splits}
 
 -- ---- a string by value
 
@@ -94,6 +100,48 @@ module _ (part : Part) (few : part .length ≤ 3) (name : List ℕ) (at : ℕ) w
       → told ≡ same (stringOf part) (drop at name)
   ends-as h e = e ∙ sym (same-begins (stringOf part) (drop at name) (string-size part few ∙ sym h ∙ sym (length-drop at name)))
 
+-- ---- a vowel letter, at an index, and behind a string
+
+-- the seven letters, as the code has them
+abbrev Vowel : ℕ → Type 0
+Vowel c = (c ≡ 0x41) ⊎ ((c ≡ 0x45) ⊎ ((c ≡ 0x49) ⊎ ((c ≡ 0x4F) ⊎ ((c ≡ 0x55) ⊎ ((c ≡ 0x57) ⊎ (c ≡ 0x59))))))
+
+pub vowel-yes : (c : ℕ) → Vowel c → true ≡ vowel c
+vowel-yes c (inl e) = rw e
+vowel-yes c (inr (inl e)) = rw e
+vowel-yes c (inr (inr (inl e))) = rw e
+vowel-yes c (inr (inr (inr (inl e)))) = rw e
+vowel-yes c (inr (inr (inr (inr (inl e))))) = rw e
+vowel-yes c (inr (inr (inr (inr (inr (inl e)))))) = rw e
+vowel-yes c (inr (inr (inr (inr (inr (inr e)))))) = rw e
+
+pub vowel-no : (c : ℕ) → (Vowel c → ⊥) → false ≡ vowel c
+vowel-no c h =
+    simp (
+      ne-eqb c 0x41 (λ e. h (inl e)),
+      ne-eqb c 0x45 (λ e. h (inr (inl e))),
+      ne-eqb c 0x49 (λ e. h (inr (inr (inl e)))),
+      ne-eqb c 0x4F (λ e. h (inr (inr (inr (inl e))))),
+      ne-eqb c 0x55 (λ e. h (inr (inr (inr (inr (inl e)))))),
+      ne-eqb c 0x57 (λ e. h (inr (inr (inr (inr (inr (inl e))))))),
+      ne-eqb c 0x59 (λ e. h (inr (inr (inr (inr (inr (inr e))))))),
+    )
+
+module _ (name : List ℕ) (at : ℕ) where
+  pub vowel-behind : length name ≤ at → false ≡ vowelFirst (drop at name)
+  vowel-behind h = rw (drop-of-length-le name h)
+
+  pub vowel-here : at < length name → {told : Bool} → told ≡ vowel (getD name at 0) → told ≡ vowelFirst (drop at name)
+  vowel-here h e = rw (drop-cons name at 0 h) e
+
+module _ (part : Part) (wanted : Bool) (name : List ℕ) (at : ℕ) {goes : Bool} (told : goes ≡ begins (stringOf part) (drop at name)) where
+  pub fits-not : goes ≡ false → false ≡ fitting (stringOf part) wanted (drop at name)
+  fits-not h = rw (sym told ∙ h)
+
+  pub fits-as : part .length ≤ 3 → goes ≡ true → {vowel-told : Bool} → vowel-told ≡ vowelFirst (drop (at + part .length) name)
+      → Bool·beq vowel-told wanted ≡ fitting (stringOf part) wanted (drop at name)
+  fits-as few h e = rw (sym told ∙ h, drop-drop (length (stringOf part)) at name, string-size part few, e)
+
 -- ---- how a name begins with the prefix, letter by letter
 
 -- the letters before `at` are the prefix's
@@ -122,6 +170,39 @@ module _ {name : List ℕ} {at : ℕ} (to : PrefixTo name at) where
   pub prefix-all : 16 ≤ at → true ≡ begins prefix name
   unfolding prefix
   prefix-all h = rw (drop-of-length-le prefix h) at (to .so-far)
+
+-- ---- a string that fits: the text goes on with it, and behind it with a vowel letter or with none, as is wanted
+
+beq-refl : (b : Bool) → Bool·beq b b ≡ true
+beq-refl true = refl
+beq-refl false = refl
+
+module _ (x : List ℕ) (wanted : Bool) where
+  fitting-append : (z : List ℕ) → vowelFirst z ≡ wanted → fitting x wanted (x ++ z) ≡ true
+  fitting-append z e = rw (begins-append x z, drop-append-seam x z, e) (beq-refl wanted)
+
+  fitting-false : (y : List ℕ) → fitting x wanted y ≡ false → (z : List ℕ) → y ≡ x ++ z → vowelFirst z ≡ wanted → ⊥
+  fitting-false y h z q e = true≢false (sym (fitting-append z e) ∙ ap (fitting x wanted) (sym q) ∙ h)
+
+  fitting-begins : (y : List ℕ) → fitting x wanted y ≡ true → begins x y ≡ true
+  fitting-begins y h = and-left (begins x y) (Bool·beq (vowelFirst (drop (length x) y)) wanted) h
+
+full-first : (x z : List ℕ) → All (λ c. vowel c ≡ true) x → (x ≡ [] → ⊥) → vowelFirst (x ++ z) ≡ true
+full-first [] z all some = absurd (some refl)
+full-first (c ∷ x) z (also is all) some = is
+
+free-first : (x : List ℕ) → All (λ c. vowel c ≡ false) x → vowelFirst x ≡ false
+free-first [] all = refl
+free-first (c ∷ x) (also is all) = is
+
+-- every peak begins with a vowel letter, and no final does
+peak-first : (p : ℕ) → p < 21 → (z : List ℕ) → vowelFirst (getD peaks p [] ++ z) ≡ true
+unfolding peaks
+peak-first p h z = full-first (getD peaks p []) z (all-at [] (name-splits .second-full) p h) (all-at [] (name-splits .second-some) p h)
+
+final-first : (f : ℕ) → f < 28 → vowelFirst (getD finals f []) ≡ false
+unfolding finals
+final-first f h = free-first (getD finals f []) (all-at [] (name-splits .third-free) f h)
 
 -- ---- a name's three strings at their indices
 
@@ -162,11 +243,12 @@ module _ (name : List ℕ) (i p f : ℕ) where
   unfolding nameBy
   prefix-miss h e = begins-false prefix name h (picked initials peaks finals i p f) e
 
-  initial-miss : begins (getD initials i []) (drop 16 name) ≡ false → Miss name i p f
-  initial-miss h e = begins-false (getD initials i []) (drop 16 name) h (getD peaks p [] ++ getD finals f []) (from-initial e)
+  initial-miss : fitting (getD initials i []) true (drop 16 name) ≡ false → p < 21 → Miss name i p f
+  initial-miss h k e =
+      fitting-false (getD initials i []) true (drop 16 name) h (getD peaks p [] ++ getD finals f []) (from-initial e) (peak-first p k (getD finals f []))
 
-  peak-miss : begins (getD peaks p []) (drop (behindInitial i) name) ≡ false → Miss name i p f
-  peak-miss h e = begins-false (getD peaks p []) (drop (behindInitial i) name) h (getD finals f []) (from-peak e)
+  peak-miss : fitting (getD peaks p []) false (drop (behindInitial i) name) ≡ false → f < 28 → Miss name i p f
+  peak-miss h k e = fitting-false (getD peaks p []) false (drop (behindInitial i) name) h (getD finals f []) (from-peak e) (final-first f k)
 
   final-miss : same (getD finals f []) (drop (behindPeak i p) name) ≡ false → Miss name i p f
   final-miss h e = same-false (getD finals f []) (drop (behindPeak i p) name) h (sym (from-final e))
@@ -193,7 +275,7 @@ module _ (name : List ℕ) (i p f : ℕ) where
 -- ---- what a search of a table of so many rows keeps: where what stands before does not fit, it begins behind the last row
 
 record Tried (rows : ℕ) (fits : Bool) (Passed : ℕ → Type 0) (row : ℕ) : Type 0 where
-  fitting : row < rows → fits ≡ true
+  before : row < rows → fits ≡ true
   passed : (j : ℕ) → j < row → Passed j
 
 module _ {rows : ℕ} {fits : Bool} {Passed : ℕ → Type 0} where
@@ -203,13 +285,13 @@ module _ {rows : ℕ} {fits : Bool} {Passed : ℕ → Type 0} where
   tried-none miss {told} {row} e q = test fits (λ h. begin h (q ∙ rw (e, h))) (λ h. behind h (q ∙ rw (e, h)))
     where
       begin : fits ≡ true → row ≡ 0 → Tried rows fits Passed row
-      begin h z = record { fitting = λ k. h; passed = λ j k. absurd (omega arith) }
+      begin h z = record { before = λ k. h; passed = λ j k. absurd (omega arith) }
 
       behind : fits ≡ false → row ≡ rows → Tried rows fits Passed row
-      behind h z = record { fitting = λ k. absurd (omega arith); passed = λ j k. miss h j (omega arith) }
+      behind h z = record { before = λ k. absurd (omega arith); passed = λ j k. miss h j (omega arith) }
 
   tried-more : {row : ℕ} → Tried rows fits Passed row → row < rows → Passed row → Tried rows fits Passed (row + 1)
-  tried-more t h p = record { fitting = λ k. t .fitting h; passed = below-more _ _ (t .passed) p }
+  tried-more t h p = record { before = λ k. t .before h; passed = below-more _ _ (t .passed) p }
 
   tried-all : {row : ℕ} → Tried rows fits Passed row → rows ≤ row → (j : ℕ) → j < rows → Passed j
   tried-all t h j k = t .passed j (omega arith)
@@ -221,12 +303,12 @@ pub record Initials (name : List ℕ) (i : ℕ) : Type 0 where
 
 pub record Peaks (name : List ℕ) (i : ℕ) (first : Part) (p : ℕ) : Type 0 where
   pub initial : Spells first (getD initials i [])
-  tried : Tried 21 (begins (getD initials i []) (drop 16 name)) (NoFinal name i) p
+  tried : Tried 21 (fitting (getD initials i []) true (drop 16 name)) (NoFinal name i) p
 
 pub record Finals (name : List ℕ) (i : ℕ) (first : Part) (p : ℕ) (second : Part) (f : ℕ) : Type 0 where
   pub initial : Spells first (getD initials i [])
   pub peak : Spells second (getD peaks p [])
-  tried : Tried 28 (begins (getD peaks p []) (drop (behindInitial i) name)) (Miss name i p) f
+  tried : Tried 28 (fitting (getD peaks p []) false (drop (behindInitial i) name)) (Miss name i p) f
 
 -- the indices behind the strings, as the code has them
 initial-behind : {first : Part} (i : ℕ) → Spells first (getD initials i []) → 16 + first .length ≡ behindInitial i
@@ -242,18 +324,18 @@ module _ {name : List ℕ} where
   initials-none e q = record { tried = tried-none (λ h j k p l f m. prefix-miss name j p f h) e q }
 
   pub peaks-none : {i : ℕ} {first : Part} → Spells first (getD initials i []) → {told : Bool} {p : ℕ}
-      → told ≡ begins (stringOf first) (drop 16 name) → p ≡ cond told 0 21 → Peaks name i first p
+      → told ≡ fitting (stringOf first) true (drop 16 name) → p ≡ cond told 0 21 → Peaks name i first p
   peaks-none {i} initial e q = record {
     initial = initial;
-    tried = tried-none (λ h j k f l. initial-miss name i j f h) (e ∙ ap (λ (x : List ℕ). begins x (drop 16 name)) (initial .is)) q;
+    tried = tried-none (λ h j k f l. initial-miss name i j f h k) (e ∙ ap (λ (x : List ℕ). fitting x true (drop 16 name)) (initial .is)) q;
   }
 
   pub finals-none : {i p : ℕ} {first second : Part} → Peaks name i first p → Spells second (getD peaks p []) → {told : Bool} {f : ℕ}
-      → told ≡ begins (stringOf second) (drop (16 + first .length) name) → f ≡ cond told 0 28 → Finals name i first p second f
+      → told ≡ fitting (stringOf second) false (drop (16 + first .length) name) → f ≡ cond told 0 28 → Finals name i first p second f
   finals-none {i} {p} middle peak e q = record {
     initial = middle .initial;
     peak = peak;
-    tried = tried-none (λ h j k. peak-miss name i p j h) (e ∙ rw (peak .is, initial-behind i (middle .initial))) q;
+    tried = tried-none (λ h j k. peak-miss name i p j h k) (e ∙ rw (peak .is, initial-behind i (middle .initial))) q;
   }
 
   -- the code's test of the final
@@ -283,18 +365,24 @@ module _ {name : List ℕ} where
   module _ {i : ℕ} (outer : Initials name i) (hi : i < 19) where
     pub prefix-long : 16 ≤ length name
     unfolding prefix
-    prefix-long = begins-least prefix name (outer .tried .fitting hi)
+    prefix-long = begins-least prefix name (outer .tried .before hi)
 
     module _ {p : ℕ} {first : Part} (middle : Peaks name i first p) (hp : p < 21) where
+      initial-there : begins (getD initials i []) (drop 16 name) ≡ true
+      initial-there = fitting-begins (getD initials i []) true (drop 16 name) (middle .tried .before hp)
+
       pub initial-long : 16 + first .length ≤ length name
       initial-long =
-          let least = begins-least (getD initials i []) (drop 16 name) (middle .tried .fitting hp) in
+          let least = begins-least (getD initials i []) (drop 16 name) initial-there in
           omega (arith, prefix-long, least, length-drop 16 name, initial-behind i (middle .initial))
 
       module _ {f : ℕ} {second : Part} (inner : Finals name i first p second f) (hf : f < 28) where
+        peak-there : begins (getD peaks p []) (drop (behindInitial i) name) ≡ true
+        peak-there = fitting-begins (getD peaks p []) false (drop (behindInitial i) name) (inner .tried .before hf)
+
         pub peak-long : 16 + first .length + second .length ≤ length name
         peak-long =
-            let least = begins-least (getD peaks p []) (drop (behindInitial i) name) (inner .tried .fitting hf) in
+            let least = begins-least (getD peaks p []) (drop (behindInitial i) name) peak-there in
             let behind = peak-behind i p (inner .initial) (inner .peak) in
             omega (arith, initial-long, least, length-drop (behindInitial i) name, initial-behind i (inner .initial), behind)
 
@@ -303,4 +391,4 @@ module _ {name : List ℕ} where
             → (i < 19) × (p < 21) × (f < 28) × (name ≡ nameBy i p f)
         finals-found final ends e =
             let there = sym (final-told inner final ends) ∙ e in
-            (hi, hp, hf, name-there name i p f (outer .tried .fitting hi) (middle .tried .fitting hp) (inner .tried .fitting hf) there)
+            (hi, hp, hf, name-there name i p f (outer .tried .before hi) initial-there peak-there there)

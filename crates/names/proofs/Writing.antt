@@ -1,10 +1,10 @@
 -- Naming. In order: a string by value, by its length (`string-none` to `string-three`, `string-fits`); a text written byte by
--- byte, as the prefix is (`wrote-next`, `wrote-text`); the prefix and three strings written one behind the other (`room-prefix` to `room-last`,
--- `wrote-name`); the name of I, P and F: its length (`name-size`), and how naming by them returns (`by-lacking`, `by-room`, `by-done`); the check
--- for a syllable; the ways in which the call returns (`names-refused`, `names-by`).
+-- byte, as the prefix is (`wrote-next`, `wrote-text`); the name of I, P and F: its length (`name-size`, `name-counted`); the prefix and three strings
+-- written one behind the other (`room-prefix` to `room-last`, `wrote-name`); how naming by I, P and F returns (`by-lacking`, `by-done`); the check for a
+-- syllable; the ways in which the call returns (`names-refused`, `names-by`).
 -- Not here: that the rows of the tables are the strings (proofs/Rows); how long a name can be (proofs/Lengths); that I, P and F are below
 -- 19, 21 and 28 (proofs/Steps of letters). Assumes nothing.
-use mathlib.Core.Path.{_≡_, refl, sym, _∙_, ap}
+use mathlib.Core.Path.{_≡_, refl, sym}
 use mathlib.Core.Bool.{true, false}
 use mathlib.Core.List.{List, [], _∷_, _++_, append-nil}
 use Prim.Native.Nat.{ℕ, _+_, _≤_, _<_}
@@ -12,16 +12,18 @@ use native.Mathlib.Numerals.{add-one}
 use native.Mathlib.Omega.{arith}
 use lib.ListN.{length, getD, take, set, length-append}
 use lib.Seq.{take-suc, take-all}
+use Rattle.laws.specs.Strings.{picked}
 use Rattle.laws.specs.Writing.{Room, Wrote, Fronts}
 use Rattle.laws.proofs.Filling.{Piece, wrote-one, wrote-two, room-first, room-second, filling-none, filling-last}
-use Rattle.answers.specs.Checks.{passes, refuses}
+use Rattle.answers.specs.Checks.{passes, refuses, lacking}
 use Rattle.answers.specs.declared.Filled.{Filled}
 use Rattle.answers.specs.declared.Filled.the-variants.{Done, Refused}
 use Rattle.answers.specs.declared.Refusal.the-variants.{NoRoom, NoSyllable}
+use Rattle.answers.proofs.Checks.{lacking-size, lacking-less, lacking-room}
 use Rattle.answers.proofs.Verdicts.{refused-before, refused-room, filled-whole}
 use Rattle.letters.specs.Syllables.{isSyllable}
 use Rattle.names.specs.Names.{initials, peaks, finals, prefix, nameBy}
-use Rattle.names.specs.Naming.{noSyllable, Names, NamesBy, indicesOf, stringOf, Spells, spelledOut}
+use Rattle.names.specs.Naming.{noSyllable, Names, NamesBy, indicesOf, stringOf, Spells}
 use Rattle.names.specs.declared.strings.Part.{Part}
 use Rattle.names.specs.declared.named.Indices.{Indices}
 use Rattle.names.proofs.Rows.{string-size, spells-size}
@@ -57,76 +59,84 @@ module _ (text : List ℕ) {out₀ out : List ℕ} (at : ℕ) where
 wrote-front : {text out out′ : List ℕ} {r : ℕ} → length text ≤ length out → Wrote out 0 text r out′ → Fronts text out r out′
 wrote-front {text} {out} h w = filling-last h (filling-none text out) (record { eq = sym (append-nil text) }) w
 
--- ---- the prefix and three strings written one behind the other, each with room where the whole has
-
-module _ (initial peak last : Part) where
-  prefix-piece : Piece (spelledOut initial peak last) prefix (stringOf initial ++ (stringOf peak ++ stringOf last))
-  prefix-piece = record { eq = refl }
-
-  initial-piece : Piece (stringOf initial ++ (stringOf peak ++ stringOf last)) (stringOf initial) (stringOf peak ++ stringOf last)
-  initial-piece = record { eq = refl }
-
-  peak-piece : Piece (stringOf peak ++ stringOf last) (stringOf peak) (stringOf last)
-  peak-piece = record { eq = refl }
-
-  module _ {out : List ℕ} (fits : length (spelledOut initial peak last) ≤ length out) where
-    room-whole : Room out 0 (spelledOut initial peak last)
-    room-whole = record { fits = omega (arith, fits) }
-
-    pub room-prefix : Room out 0 prefix
-    room-prefix = room-first room-whole prefix-piece
-
-    module _ {behind-prefix : ℕ} {out₁ : List ℕ} (wrote-prefix : Wrote out 0 prefix behind-prefix out₁) where
-      room-strings : Room out₁ behind-prefix (stringOf initial ++ (stringOf peak ++ stringOf last))
-      room-strings = room-second room-whole prefix-piece wrote-prefix
-
-      pub room-initial : Room out₁ behind-prefix (stringOf initial)
-      room-initial = room-first room-strings initial-piece
-
-      module _ {behind-initial : ℕ} {out₂ : List ℕ} (wrote-initial : Wrote out₁ behind-prefix (stringOf initial) behind-initial out₂) where
-        room-two : Room out₂ behind-initial (stringOf peak ++ stringOf last)
-        room-two = room-second room-strings initial-piece wrote-initial
-
-        pub room-peak : Room out₂ behind-initial (stringOf peak)
-        room-peak = room-first room-two peak-piece
-
-        module _ {behind-peak : ℕ} {out₃ : List ℕ} (wrote-peak : Wrote out₂ behind-initial (stringOf peak) behind-peak out₃) where
-          pub room-last : Room out₃ behind-peak (stringOf last)
-          room-last = room-second room-two peak-piece wrote-peak
-
-          pub wrote-name : {r : ℕ} {out₄ : List ℕ} → Wrote out₃ behind-peak (stringOf last) r out₄ → Wrote out 0 (spelledOut initial peak last) r out₄
-          wrote-name w = wrote-two prefix-piece wrote-prefix (wrote-two initial-piece wrote-initial (wrote-two peak-piece wrote-peak w))
-
--- ---- the name of I, P and F: its length, its strings, and the ways in which naming by them returns
+-- ---- the name of I, P and F: its length, and its strings one behind the other
 
 module _ (i p f : ℕ) where
   pub name-size : length (nameBy i p f) ≡ 16 + length (getD initials i []) + length (getD peaks p []) + length (getD finals f [])
   unfolding nameBy prefix
   name-size = simp length-append (omega arith)
 
-  module _ {initial peak last : Part} (spells-initial : Spells initial (getD initials i [])) (spells-peak : Spells peak (getD peaks p []))
-      (spells-last : Spells last (getD finals f [])) where
-    name-spelled : spelledOut initial peak last ≡ nameBy i p f
-    unfolding nameBy
-    name-spelled = rw (spells-initial .is, spells-peak .is, spells-last .is)
+  -- as the code counts it
+  pub name-counted : {initial peak last : Part} → Spells initial (getD initials i []) → Spells peak (getD peaks p []) → Spells last (getD finals f [])
+      → 16 + initial .length + peak .length + last .length ≡ length (nameBy i p f)
+  name-counted initial peak last = omega (arith, name-size, spells-size initial, spells-size peak, spells-size last)
 
-    name-counted : 16 + initial .length + peak .length + last .length ≡ length (nameBy i p f)
-    name-counted = omega (arith, name-size, spells-size spells-initial, spells-size spells-peak, spells-size spells-last)
+  prefix-piece : Piece (nameBy i p f) prefix (picked initials peaks finals i p f)
+  unfolding nameBy
+  prefix-piece = record { eq = refl }
 
-    module _ (out : List ℕ) where
-      pub by-lacking : length out < 16 + initial .length + peak .length + last .length
-          → NamesBy i p f out (Refused (NoRoom (16 + initial .length + peak .length + last .length))) out
-      by-lacking h = record { fills = refused-room refl name-counted h }
+  initial-piece : Piece (picked initials peaks finals i p f) (getD initials i []) (getD peaks p [] ++ getD finals f [])
+  initial-piece = record { eq = refl }
 
-      module _ (fits : 16 + initial .length + peak .length + last .length ≤ length out) where
-        pub by-room : length (spelledOut initial peak last) ≤ length out
-        by-room = omega (arith, name-counted, ap length name-spelled)
+  peak-piece : Piece (getD peaks p [] ++ getD finals f []) (getD peaks p []) (getD finals f [])
+  peak-piece = record { eq = refl }
 
-        pub by-done : {r : ℕ} {out′ : List ℕ} → Wrote out 0 (spelledOut initial peak last) r out′ → NamesBy i p f out (Done r) out′
-        by-done w =
-            let room : length (nameBy i p f) ≤ length out = omega (arith, name-counted) in
-            let filled : Fronts (nameBy i p f) out _ _ = wrote-front room (rw name-spelled at w) in
-            record { fills = rw (filled .size) (filled-whole refl room (filled .holds)) }
+-- ---- a table's string written, by value
+
+module _ {part : Part} {string : List ℕ} (spells : Spells part string) {out : List ℕ} {at : ℕ} where
+  room-spelled : Room out at string → Room out at (stringOf part)
+  room-spelled r = rw (spells .is) r
+
+  wrote-spelled : {r : ℕ} {out′ : List ℕ} → Wrote out at (stringOf part) r out′ → Wrote out at string r out′
+  wrote-spelled w = rw (spells .is) at w
+
+-- ---- the prefix and three strings written one behind the other, each with room where the whole has
+
+module _ (i p f : ℕ) {out : List ℕ} (fits : length (nameBy i p f) ≤ length out) where
+  room-whole : Room out 0 (nameBy i p f)
+  room-whole = record { fits = omega (arith, fits) }
+
+  pub room-prefix : Room out 0 prefix
+  room-prefix = room-first room-whole (prefix-piece i p f)
+
+  module _ {behind-prefix : ℕ} {out₁ : List ℕ} (wrote-prefix : Wrote out 0 prefix behind-prefix out₁) {initial : Part}
+      (spells-initial : Spells initial (getD initials i [])) where
+    room-strings : Room out₁ behind-prefix (picked initials peaks finals i p f)
+    room-strings = room-second room-whole (prefix-piece i p f) wrote-prefix
+
+    pub room-initial : Room out₁ behind-prefix (stringOf initial)
+    room-initial = room-spelled spells-initial (room-first room-strings (initial-piece i p f))
+
+    module _ {behind-initial : ℕ} {out₂ : List ℕ} (wrote-initial : Wrote out₁ behind-prefix (stringOf initial) behind-initial out₂) {peak : Part}
+        (spells-peak : Spells peak (getD peaks p [])) where
+      room-two : Room out₂ behind-initial (getD peaks p [] ++ getD finals f [])
+      room-two = room-second room-strings (initial-piece i p f) (wrote-spelled spells-initial wrote-initial)
+
+      pub room-peak : Room out₂ behind-initial (stringOf peak)
+      room-peak = room-spelled spells-peak (room-first room-two (peak-piece i p f))
+
+      module _ {behind-peak : ℕ} {out₃ : List ℕ} (wrote-peak : Wrote out₂ behind-initial (stringOf peak) behind-peak out₃) {last : Part}
+          (spells-last : Spells last (getD finals f [])) where
+        pub room-last : Room out₃ behind-peak (stringOf last)
+        room-last = room-spelled spells-last (room-second room-two (peak-piece i p f) (wrote-spelled spells-peak wrote-peak))
+
+        pub wrote-name : {r : ℕ} {out₄ : List ℕ} → Wrote out₃ behind-peak (stringOf last) r out₄ → Wrote out 0 (nameBy i p f) r out₄
+        wrote-name w =
+            wrote-two (prefix-piece i p f) wrote-prefix
+            (wrote-two (initial-piece i p f) (wrote-spelled spells-initial wrote-initial)
+            (wrote-two (peak-piece i p f) (wrote-spelled spells-peak wrote-peak) (wrote-spelled spells-last w)))
+
+-- ---- the ways in which naming by I, P and F returns: n is what is found to be lacking
+
+module _ (i p f : ℕ) {out : List ℕ} {n : ℕ} (found : n ≡ lacking (length out) (length (nameBy i p f))) where
+  pub by-lacking : (n ≡ 0 → ⊥) → NamesBy i p f out (Refused (NoRoom n)) out
+  by-lacking h = record { fills = refused-room refl (lacking-size _ _ found h) (lacking-less _ _ found h) }
+
+  pub by-done : n ≡ 0 → {r : ℕ} {out′ : List ℕ} → Wrote out 0 (nameBy i p f) r out′ → NamesBy i p f out (Done r) out′
+  by-done e w =
+      let room : length (nameBy i p f) ≤ length out = lacking-room _ _ found e in
+      let filled : Fronts (nameBy i p f) out _ _ = wrote-front room w in
+      record { fills = rw (filled .size) (filled-whole refl room (filled .holds)) }
 
 -- ---- 4: no syllable
 

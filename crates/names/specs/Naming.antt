@@ -1,18 +1,19 @@
 -- What naming and reading a name check and answer (document 01, 'Names', 'Refusal numbers'), and what their private functions ask and promise.
 -- Not here: the names (specs/Names). Assumes nothing.
 use mathlib.Core.Path.{_≡_}
-use mathlib.Core.Bool.{Bool, cond}
+use mathlib.Core.Bool.{Bool, false, cond, _&&_, Bool·beq}
 use mathlib.Core.Option.{Option, none, some}
-use mathlib.Core.List.{List, [], _∷_, _++_}
-use Prim.Native.Nat.{ℕ, _+_, _*_, _/_, _%_, _≤_, _<_}
+use mathlib.Core.List.{List, [], _∷_}
+use Prim.Native.Nat.{ℕ, _*_, _/_, _%_, _≤_, _<_}
 use lib.Dec.{ltb}
 use lib.ListN.{length, getD, take, drop}
+use Rattle.laws.specs.Strings.{begins}
 use Rattle.answers.specs.Checks.{Check, passes, refuses, inOrder, takesBytes}
 use Rattle.answers.specs.Verdicts.{Verdict, done, verdict, Fills}
 use Rattle.answers.specs.Answers.{filled, refusedBy}
 use Rattle.answers.specs.declared.Filled.{Filled}
 use Rattle.letters.specs.Syllables.{isSyllable, initialOf, peakOf, finalOf}
-use Rattle.names.specs.Names.{initials, peaks, finals, prefix, nameBy, nameOf, named}
+use Rattle.names.specs.Names.{initials, peaks, finals, nameBy, nameOf, named, vowel}
 use Rattle.names.specs.declared.strings.Part.{Part}
 use Rattle.names.specs.declared.named.Indices.{Indices}
 use Rattle.names.specs.declared.named.Found.{Found}
@@ -63,6 +64,15 @@ abbrev pub FoundIs : List ℕ → Found → Type 0
 FoundIs name (At i p f) = (i < 19) × (p < 21) × (f < 28) × (name ≡ nameBy i p f)
 FoundIs name Nothing = (i p f : ℕ) → i < 19 → p < 21 → f < 28 → name ≡ nameBy i p f → ⊥
 
+-- does a text begin with a letter of the peaks?
+abbrev pub vowelFirst : List ℕ → Bool
+vowelFirst [] = false
+vowelFirst (c ∷ text) = vowel c
+
+-- does a text go on with a string, and behind it with a letter of the peaks, or with none, as is wanted?
+abbrev pub fitting : List ℕ → Bool → List ℕ → Bool
+fitting string wanted text = begins string text && Bool·beq (vowelFirst (drop (length string) text)) wanted
+
 -- ---- one string of a table, by value
 
 abbrev pub stringOf : Part → List ℕ
@@ -94,7 +104,3 @@ PeakRows rows = Rows rows peaks
 
 abbrev pub FinalRows : List ℕ → Type 0
 FinalRows rows = Rows rows finals
-
--- what is written for three strings
-abbrev pub spelledOut : Part → Part → Part → List ℕ
-spelledOut initial peak last = prefix ++ (stringOf initial ++ (stringOf peak ++ stringOf last))

@@ -1,10 +1,9 @@
 // The strings of names: three constant tables, and one row of such a table (document 01, 'Names').
 // Not here: what is done with a string (crates names_naming and names_reading).
 ghost use mathlib.Core.Path.{_≡_};
-ghost use mathlib.Core.List.{[]};
-ghost use lib.ListN.{length, getD};
+ghost use lib.ListN.{length};
 ghost use Rattle.names.specs.Names.{initials, peaks, finals};
-ghost use Rattle.names.specs.Naming.{Spells, partAt, Rows};
+ghost use Rattle.names.specs.Naming.{partAt, Rows};
 
 // Four bytes to a row: how long the string is, as a digit, and the string.
 const INITIALS: [u8; 76] =
@@ -68,28 +67,4 @@ pub fn string_at(rows: &[u8], row: usize) -> Part
         third: rows[at + 3],
         length: (rows[at] % 4) as usize,
     }
-}
-
-// The string of an initial by itself, for a call that needs no other.
-pub fn initial(row: usize) -> Part
-    ensures { λ r. ⌜ Spells r (getD initials row []) ⌝ }
-{
-    let rows = initial_rows();
-    string_at(&rows, row)
-}
-
-// Of a peak.
-pub fn peak(row: usize) -> Part
-    ensures { λ r. ⌜ Spells r (getD peaks row []) ⌝ }
-{
-    let rows = peak_rows();
-    string_at(&rows, row)
-}
-
-// Of a final.
-pub fn last(row: usize) -> Part
-    ensures { λ r. ⌜ Spells r (getD finals row []) ⌝ }
-{
-    let rows = final_rows();
-    string_at(&rows, row)
 }

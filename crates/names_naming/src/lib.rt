@@ -10,9 +10,10 @@ ghost use mathlib.Core.Bool.{true};
 ghost use Prim.Native.Nat.{_≤_, _<_};
 ghost use lib.ListN.{length};
 ghost use Rattle.laws.specs.Writing.{Room, Wrote};
+ghost use Rattle.answers.specs.Checks.{lacking};
 ghost use Rattle.letters.specs.Syllables.{isSyllable};
-ghost use Rattle.names.specs.Names.{prefix};
-ghost use Rattle.names.specs.Naming.{indicesOf, stringOf, spelledOut, NamesBy, Names};
+ghost use Rattle.names.specs.Names.{prefix, nameBy};
+ghost use Rattle.names.specs.Naming.{indicesOf, stringOf, InitialRows, PeakRows, FinalRows, NamesBy, Names};
 
 // The three indices of a syllable.
 fn indices_of(code: u32) -> Indices
@@ -62,15 +63,47 @@ fn put_prefix(out: &mut [u8]) -> usize
     at
 }
 
-// Writes the prefix and three strings to the front of `out`, which has room for them.
-fn put_name(initial: Part, peak: Part, last: Part, out: &mut [u8]) -> usize
-    requires { ⌜ (initial .length ≤ 3) × (peak .length ≤ 3) × (last .length ≤ 3) ⌝ }
-    requires { ⌜ length (spelledOut initial peak last) ≤ length (now out) ⌝ }
-    ensures { λ r. ⌜ Wrote (now (out .entry)) 0 (spelledOut initial peak last) r (now (out .exit)) ⌝ }
+// The length needed where `room` does not do, else 0. 23 bytes always do, and then nothing is counted.
+fn name_lacking(
+    indices: Indices,
+    initials: &[u8],
+    peaks: &[u8],
+    finals: &[u8],
+    room: usize,
+) -> usize
+    requires { ⌜ InitialRows (now initials) ⌝ }
+    requires { ⌜ PeakRows (now peaks) ⌝ }
+    requires { ⌜ FinalRows (now finals) ⌝ }
+    ensures { λ r. ⌜ r ≡ lacking room (length (nameBy (indices .initial) (indices .peak) (indices .last))) ⌝ }
+{
+    if 23 <= room {
+        return 0;
+    }
+    let initial = strings::string_at(initials, indices.initial);
+    let peak = strings::string_at(peaks, indices.peak);
+    let last = strings::string_at(finals, indices.last);
+    let needed = 16 + initial.length + peak.length + last.length;
+    if room < needed {
+        return needed;
+    }
+    0
+}
+
+// Writes the prefix and three strings to the front of `out`, which has room for them. Each string is
+// taken from its table when it is written.
+fn put_name(indices: Indices, initials: &[u8], peaks: &[u8], finals: &[u8], out: &mut [u8]) -> usize
+    requires { ⌜ InitialRows (now initials) ⌝ }
+    requires { ⌜ PeakRows (now peaks) ⌝ }
+    requires { ⌜ FinalRows (now finals) ⌝ }
+    requires { ⌜ length (nameBy (indices .initial) (indices .peak) (indices .last)) ≤ length (now out) ⌝ }
+    ensures { λ r. ⌜ Wrote (now (out .entry)) 0 (nameBy (indices .initial) (indices .peak) (indices .last)) r (now (out .exit)) ⌝ }
 {
     let behind_prefix = put_prefix(out);
+    let initial = strings::string_at(initials, indices.initial);
     let behind_initial = put_part(initial, out, behind_prefix);
+    let peak = strings::string_at(peaks, indices.peak);
     let behind_peak = put_part(peak, out, behind_initial);
+    let last = strings::string_at(finals, indices.last);
     put_part(last, out, behind_peak)
 }
 
@@ -78,14 +111,14 @@ fn put_name(initial: Part, peak: Part, last: Part, out: &mut [u8]) -> usize
 fn name_by(indices: Indices, out: &mut [u8]) -> Filled
     ensures { λ r. ⌜ NamesBy (indices .initial) (indices .peak) (indices .last) (now (out .entry)) r (now (out .exit)) ⌝ }
 {
-    let initial = strings::initial(indices.initial);
-    let peak = strings::peak(indices.peak);
-    let last = strings::last(indices.last);
-    let needed = 16 + initial.length + peak.length + last.length;
-    if out.len() < needed {
+    let initials = strings::initial_rows();
+    let peaks = strings::peak_rows();
+    let finals = strings::final_rows();
+    let needed = name_lacking(indices, &initials, &peaks, &finals, out.len());
+    if needed != 0 {
         return Filled::Refused(Refusal::NoRoom(needed));
     }
-    Filled::Done(put_name(initial, peak, last, out))
+    Filled::Done(put_name(indices, &initials, &peaks, &finals, out))
 }
 
 // Names a syllable: refusals 4 and 3.

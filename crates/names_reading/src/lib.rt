@@ -13,7 +13,7 @@ ghost use lib.ListN.{length, drop};
 ghost use Rattle.laws.specs.Strings.{begins, same};
 ghost use Rattle.answers.specs.Checks.{passes, takesBytes};
 ghost use Rattle.names.specs.Names.{prefix};
-ghost use Rattle.names.specs.Naming.{stringOf, InitialRows, PeakRows, FinalRows, ReadsName, FoundIs};
+ghost use Rattle.names.specs.Naming.{stringOf, vowelFirst, fitting, InitialRows, PeakRows, FinalRows, ReadsName, FoundIs};
 
 // Does the name go on with a string from `at` on?
 fn goes_on(name: &[u8], at: usize, part: Part) -> bool
@@ -52,6 +52,32 @@ fn ends(name: &[u8], at: usize, part: Part) -> bool
         return false;
     }
     goes_on(name, at, part)
+}
+
+// Does a vowel letter stand at an index? Every peak's string begins with one, and no final's.
+fn vowel_at(name: &[u8], at: usize) -> bool
+    ensures { λ r. ⌜ r ≡ vowelFirst (drop at (now (name .entry))) ⌝ }
+{
+    if name.len() <= at {
+        return false;
+    }
+    match name[at] {
+        b'A' | b'E' | b'I' | b'O' | b'U' | b'W' | b'Y' => true,
+        _ => false,
+    }
+}
+
+// Does the name go on with a string, and behind it with a vowel letter, or with none? Where that
+// does not fit, the next table need not be searched.
+fn fits(name: &[u8], at: usize, part: Part, vowel: bool) -> bool
+    requires { ⌜ part .length ≤ 3 ⌝ }
+    requires { ⌜ at ≤ length (now name) ⌝ }
+    ensures { λ r. ⌜ r ≡ fitting (stringOf part) vowel (drop at (now (name .entry))) ⌝ }
+{
+    if !goes_on(name, at, part) {
+        return false;
+    }
+    vowel_at(name, at + part.length) == vowel
 }
 
 // Where the search of a table of so many rows begins: at its first row, or, where what stands before
@@ -97,11 +123,11 @@ fn search(name: &[u8], initials: &[u8], peaks: &[u8], finals: &[u8]) -> Found
             break 'search Found::Nothing;
         }
         let initial = strings::string_at(initials, i);
-        let mut p = start(goes_on(name, 16, initial), 21);
+        let mut p = start(fits(name, 16, initial, true), 21);
         while p < 21 {
             let peak = strings::string_at(peaks, p);
             let behind_initial = 16 + initial.length;
-            let mut f = start(goes_on(name, behind_initial, peak), 28);
+            let mut f = start(fits(name, behind_initial, peak, false), 28);
             while f < 28 {
                 if ends(
                     name,

@@ -1,72 +1,71 @@
--- `names_naming::name_by` meets its contract: no room, or the prefix and the strings of the three indices written.
+-- `names_naming::name_by` meets its contract: what is lacking is found, and no room is answered, or the name is written.
 -- Assumes nothing.
-use Rattle.names.proofs.Writing.{by-lacking, by-room, by-done}
-use native.Mathlib.Omega.{arith}
+use Rattle.answers.proofs.Checks.{lacking-room}
+use Rattle.names.proofs.Writing.{by-lacking, by-done}
 use borrow.Author.Needs.{needs}
 use Rattle.names_naming.proofs.name_by.Statement.{statement}
 use Rattle.names_naming.proofs.name_by.Tie as tie
 
-initial-requires : tie.Need-initial-requires
-initial-requires c κs = search needs
+initial-rows-requires : tie.Need-initial-rows-requires
+initial-rows-requires c κs = search needs
 
-peak-requires : tie.Need-peak-requires
-peak-requires c κs = search needs
+peak-rows-requires : tie.Need-peak-rows-requires
+peak-rows-requires c κs = search needs
 
-last-requires : tie.Need-last-requires
-last-requires c κs = search needs
+final-rows-requires : tie.Need-final-rows-requires
+final-rows-requires c κs = search needs
 
-add-needed : tie.Need-add-needed
-add-needed c = omega (arith, c .before .before .before .initial .ensures .few)
+slice-aggregate-name-lacking : tie.Need-slice-aggregate-name-lacking
+slice-aggregate-name-lacking c = search needs
 
-add-needed-2 : tie.Need-add-needed-2
-add-needed-2 c = omega (arith, c .before .before .before .before .initial .ensures .few, c .before .before .before .peak .ensures .few)
+slice-aggregate-name-lacking-2 : tie.Need-slice-aggregate-name-lacking-2
+slice-aggregate-name-lacking-2 c = search needs
 
-add-needed-3 : tie.Need-add-needed-3
-add-needed-3 c =
-    omega (
-      arith,
-      c .before .before .before .before .before .initial .ensures .few,
-      c .before .before .before .before .peak .ensures .few,
-      c .before .before .before .last .ensures .few,
-    )
+slice-aggregate-name-lacking-3 : tie.Need-slice-aggregate-name-lacking-3
+slice-aggregate-name-lacking-3 c = search needs
+
+name-lacking-requires : tie.Need-name-lacking-requires
+name-lacking-requires c κs = search needs
 
 returns : tie.Need-returns
-returns c =
-    by-lacking _ _ _ (c .before .before .before .before .before .before .initial .ensures) (c .before .before .before .before .before .peak .ensures)
-    (c .before .before .before .before .last .ensures) _ (c .if1 .taken)
+returns c = by-lacking _ _ _ (c .before .name-lacking .ensures) (c .if1 .taken)
+
+slice-aggregate-put-name : tie.Need-slice-aggregate-put-name
+slice-aggregate-put-name c = search needs
+
+slice-aggregate-put-name-2 : tie.Need-slice-aggregate-put-name-2
+slice-aggregate-put-name-2 c = search needs
+
+slice-aggregate-put-name-3 : tie.Need-slice-aggregate-put-name-3
+slice-aggregate-put-name-3 c = search needs
 
 put-name-requires : tie.Need-put-name-requires
 put-name-requires c κs = (
-  (c .before .before .before .before .before .before .before .initial .ensures .few, c .before .before .before .before .before .before .peak .ensures .few, c .before .before .before .before .before .last .ensures .few),
-  by-room (c .before .before .before .before .before .before .before .before .before .args .indices .initial)
-      (c .before .before .before .before .before .before .before .before .before .args .indices .peak)
-      (c .before .before .before .before .before .before .before .before .before .args .indices .last)
-      (c .before .before .before .before .before .before .before .initial .ensures) (c .before .before .before .before .before .before .peak .ensures)
-      (c .before .before .before .before .before .last .ensures)
-      (c .before .before .before .before .before .before .before .before .before .args .out .now) (c .before .if1 .left),
+  c .before .before .before .before .before .before .before .before .before .before .before .initial-rows .ensures .1,
+  (c .before .before .before .before .before .before .before .before .before .before .peak-rows .ensures .1, (c .before .before .before .before .before .before .before .before .before .final-rows .ensures .1, lacking-room _ _ (c .before .before .before .before .before .name-lacking .ensures) (c .before .before .before .before .if1 .left))),
 )
 
 same-length : tie.Need-same-length
 same-length c = search needs
 
 returns-2 : tie.Need-returns-2
-returns-2 c =
-    by-done _ _ _ (c .before .before .before .before .before .before .before .before .before .before .initial .ensures)
-    (c .before .before .before .before .before .before .before .before .before .peak .ensures)
-    (c .before .before .before .before .before .before .before .before .last .ensures) _ (c .before .before .before .before .if1 .left)
-    (c .before .before .put-name .ensures)
+returns-2 c = by-done _ _ _ (c .before .before .before .before .before .before .before .before .name-lacking .ensures) (c .before .before .before .before .before .before .before .if1 .left) (c .before .before .put-name .ensures)
 
 pub name-by-spec : {M : Type 1} → statement M
 name-by-spec =
     tie.close
     (tie.spec
-    initial-requires
-    peak-requires
-    last-requires
-    add-needed
-    add-needed-2
-    add-needed-3
+    initial-rows-requires
+    peak-rows-requires
+    final-rows-requires
+    slice-aggregate-name-lacking
+    slice-aggregate-name-lacking-2
+    slice-aggregate-name-lacking-3
+    name-lacking-requires
     returns
+    slice-aggregate-put-name
+    slice-aggregate-put-name-2
+    slice-aggregate-put-name-3
     put-name-requires
     same-length
     returns-2)

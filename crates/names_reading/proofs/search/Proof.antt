@@ -41,8 +41,8 @@ string-at-requires :
     tie.Need-string-at-requires Inv-loop2 μ-loop2 Inv-loop μ-loop Inv-search μ-search
 string-at-requires c κs = search needs
 
-goes-on-requires : tie.Need-goes-on-requires Inv-loop2 μ-loop2 Inv-loop μ-loop Inv-search μ-search
-goes-on-requires c κs = (
+fits-requires : tie.Need-fits-requires Inv-loop2 μ-loop2 Inv-loop μ-loop Inv-search μ-search
+fits-requires c κs = (
   spelled _ (c .before .before .before .before .before .before .before .before .before .pre .0) (c .string-at .ensures) .few,
   prefix-long (c .before .before .search .inv) (c .before .if1 .left),
 )
@@ -54,7 +54,7 @@ loop-holds : tie.Need-loop-holds Inv-loop2 μ-loop2 Inv-loop μ-loop Inv-search 
 loop-holds c =
     peaks-none
     (spelled _ (c .before .before .before .before .before .before .before .before .before .before .before .pre .0) (c .before .before .string-at .ensures))
-    (c .before .goes-on .ensures) (c .start2 .ensures)
+    (c .before .fits2 .ensures) (c .start2 .ensures)
 
 string-at-requires-2 :
     tie.Need-string-at-requires-2 Inv-loop2 μ-loop2 Inv-loop μ-loop Inv-search μ-search
@@ -64,9 +64,9 @@ add-behind-initial :
     tie.Need-add-behind-initial Inv-loop2 μ-loop2 Inv-loop μ-loop Inv-search μ-search
 add-behind-initial c = omega (arith, c .before .before .before .loop .inv .initial .few)
 
-goes-on-requires-2 :
-    tie.Need-goes-on-requires-2 Inv-loop2 μ-loop2 Inv-loop μ-loop Inv-search μ-search
-goes-on-requires-2 c κs = (
+fits-requires-2 :
+    tie.Need-fits-requires-2 Inv-loop2 μ-loop2 Inv-loop μ-loop Inv-search μ-search
+fits-requires-2 c κs = (
   spelled _ (c .before .before .before .before .before .before .before .before .before .before .before .before .before .before .before .pre .1 .0)
       (c .before .string-at2 .ensures) .few,
   initial-long (c .before .before .before .before .before .before .before .before .search .inv)
@@ -80,7 +80,7 @@ loop2-holds : tie.Need-loop2-holds Inv-loop2 μ-loop2 Inv-loop μ-loop Inv-searc
 loop2-holds c =
     finals-none (c .before .before .before .before .before .loop .inv)
     (spelled _ (c .before .before .before .before .before .before .before .before .before .before .before .before .before .before .before .before .before .pre .1 .0) (c .before .before .before .string-at2 .ensures))
-    (c .before .goes-on2 .ensures) (c .start3 .ensures)
+    (c .before .fits3 .ensures) (c .start3 .ensures)
 
 add-ends : tie.Need-add-ends Inv-loop2 μ-loop2 Inv-loop μ-loop Inv-search μ-search
 add-ends c = omega (arith, c .before .before .loop2 .inv .initial .few, c .before .before .loop2 .inv .peak .few)
@@ -163,12 +163,12 @@ search-spec =
     start-requires
     search-holds
     string-at-requires
-    goes-on-requires
+    fits-requires
     start-requires-2
     loop-holds
     string-at-requires-2
     add-behind-initial
-    goes-on-requires-2
+    fits-requires-2
     start-requires-3
     loop2-holds
     add-ends
