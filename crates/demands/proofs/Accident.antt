@@ -10,7 +10,7 @@ use Rattle.joining.proofs.Joins.{same-join, same-parts}
 use Rattle.normal.specs.Forms.{nfd}
 use Rattle.normal.proofs.Repertoire.{equivalent-joined, nfd-of-parts}
 use Rattle.utf8.specs.Utf8.{readText}
-use Rattle.utf8.proofs.Round.{read-write}
+use Rattle.utf8_round.proofs.Round.{read-write}
 use Rattle.mending.proofs.Same.{same-call}
 use Rattle.demands.specs.Accident.{Mended, OneBoat, SameBoat, TwoBoats}
 

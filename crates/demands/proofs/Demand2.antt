@@ -74,7 +74,7 @@ name-read s name out out′ r h room k = call-read h room k
 pub all-named : demand.AllNamed
 all-named index small out out′ r room h =
     let is = index-made index (omega arith) .0 in
-    (length (nameOf (0xAC00 + index)), names-unique h (names-whole (0xAC00 + index) is (omega (arith, syllable-name-most (0xAC00 + index) is))) .0)
+    (length (nameOf (0xAC00 + index)), names-unique h (names-whole (0xAC00 + index) is (omega (arith, syllable-name-most (0xAC00 + index)))) .0)
 
 pub joining-parts : demand.JoiningParts
 joining-parts text out o p r s good short h k = parts-call text out good short h k

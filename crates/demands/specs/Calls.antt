@@ -40,7 +40,7 @@ use Rattle.mending.specs.Mending.{mended}
 use Rattle.mending.specs.Characters.{characterFrom}
 use Rattle.names.specs.Names.{nameOf, named}
 use Rattle.names.specs.Naming.{noSyllable, noName, syllableOr, namedAs, Names, ReadsName}
-use Rattle.names.specs.declared.reading.Named.{Named}
+use Rattle.names.specs.declared.named.Named.{Named}
 use Rattle.clusters.specs.Simple.{simple}
 use Rattle.clusters.specs.Gathering.{gathered}
 use Rattle.fillers.specs.Groups.{turned}
@@ -53,7 +53,7 @@ use Rattle.labels.specs.Images.{countOf, recordAt, replaced, labelAt, berthAt, 
 use Rattle.labels.specs.Images.{Judges, stored, noLabel, Writes}
 use Rattle.labels.specs.declared.image.Found.{Found}
 use Rattle.labels.specs.declared.image.Judged.{Judged}
-use Rattle.labels.specs.declared.writing.Form.{Form}
+use Rattle.labels.specs.declared.image.Form.{Form}
 use Rattle.sorting.specs.Sorting.{orderOf, Orders}
 use Rattle.sorting.specs.Printing.{printed, Prints}
 use Rattle.pulphopper.specs.Replies.{Mends, NamesForC, ReadsNameForC, RanksForC}

@@ -33,8 +33,8 @@ use Rattle.utf8.specs.declared.read.Counted.{Counted}
 use Rattle.utf8.specs.declared.read.Read.the-variants.{Done as ReadDone}
 use Rattle.names.specs.Names.{ruleNR1}
 use Rattle.names.specs.Naming.{Names, ReadsName}
-use Rattle.names.specs.declared.reading.Named.{Named}
-use Rattle.names.specs.declared.reading.Named.the-variants.{Syllable}
+use Rattle.names.specs.declared.named.Named.{Named}
+use Rattle.names.specs.declared.named.Named.the-variants.{Syllable}
 
 -- "Taking syllables apart": section 3.12. One step is the arithmetic decomposition mapping; full parts are the full canonical decomposition of each
 -- character of the text
