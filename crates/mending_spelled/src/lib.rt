@@ -1,6 +1,7 @@
 // A syllable that stands as single letters, found by its bytes with no code point in between.
 // A shorter way to what crate mending_character finds: nothing is decided here that is not decided there.
 pub mod alone;
+
 use utf8::read::Taken;
 ghost use mathlib.Core.Path.{_≡_};
 ghost use Prim.Native.Nat.{_≤_};
