@@ -1,4 +1,4 @@
--- The table and the parts as the code has them: 768 numbers, and a row of them by value. What the private functions promise.
+-- The table and the parts as the code has them: 768 numbers, and a row of them by value. What the functions that read it promise.
 -- Not here: the clusters (specs/Table), simple form (specs/Simple). Assumes nothing.
 use mathlib.Core.Path.{_≡_}
 use mathlib.Core.Bool.{cond, _&&_}

@@ -1,4 +1,4 @@
--- What the private functions of mending ask and promise: how far they come in a text, what they read there, and what they leave in the buffer.
+-- What the functions that mending is made of ask and promise: how far they come in a text, what they read there, and what they leave in the buffer.
 -- Not here: the mended text (specs/Mending), the contract of the call (crate utf8, specs/Reading, `Reads` at `mended`). Assumes nothing.
 --
 -- In order: a part of a text (`Goes`), one that stands as it is in the mended text (`Passes`), and its copy (`Copies`); three bytes that pass (`Three`,

@@ -1,4 +1,4 @@
--- What naming and reading a name check and answer (document 01, 'Names', 'Refusal numbers'), and what their private functions ask and promise.
+-- What naming and reading a name check and answer (document 01, 'Names', 'Refusal numbers'), and what the functions behind them ask and promise.
 -- Not here: the names (specs/Names). Assumes nothing.
 use mathlib.Core.Path.{_≡_}
 use mathlib.Core.Bool.{Bool, false, cond, _&&_, Bool·beq}

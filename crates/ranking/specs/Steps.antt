@@ -1,4 +1,4 @@
--- What the private functions that rank ask and promise. In order: what stands in front of what is left (`frontOf`, `behind`, `nextOf`); the rank of
+-- What the functions that ranking is made of ask and promise. In order: what stands in front of what is left (`frontOf`, `behind`, `nextOf`); the rank of
 -- what is left, by what is known (`rankFrom`); one step (`doneWith`, `bothWith`, `zeroWith`, `Closed`, `Steps`); where characters begin in a text, over
 -- any way to read it (`Begins`), and how far ranking has come (`Reached`, `Follows`, `Advanced`, `Fits`, `Advances`); bytes that are alike (`Alike`).
 -- Not here: the rank itself (specs/Ranking). Assumes nothing.
