@@ -1,9 +1,8 @@
 // Refusals, answers, and the first bad code point of a text (document 01, 'Refusal numbers').
-// What every call has in common, and nothing of Hangul.
+// What every call has in common, and nothing of Hangul. Not here: a refusal as a number, or as a line (crate answers_told).
 ghost use mathlib.Core.Path.{_≡_};
-ghost use lib.ListN.{length};
 ghost use Rattle.answers.specs.Checks.{bad, firstBad, takesBytes, takesText};
-ghost use Rattle.answers.specs.Answers.{told, refusedLine, checked};
+ghost use Rattle.answers.specs.Answers.{checked};
 
 // The most code points or bytes that a call takes.
 pub const LIMIT: usize = 16384;
@@ -42,53 +41,6 @@ pub enum Filled {
 pub enum Checked {
     Passed,
     Refused(Refusal),
-}
-
-// The number and the place of a refusal: the one place of the code that tells its cases apart.
-pub fn tell(refusal: Refusal) -> Told
-    ensures { λ r. ⌜ r ≡ told refusal ⌝ }
-{
-    match refusal {
-        Refusal::OverLimit(limit) => Told {
-            number: 1,
-            place: limit,
-        },
-        Refusal::BadCodePoint(index) => Told {
-            number: 2,
-            place: index,
-        },
-        Refusal::NoRoom(needed) => Told {
-            number: 3,
-            place: needed,
-        },
-        Refusal::NoSyllable => Told {
-            number: 4,
-            place: 0,
-        },
-        Refusal::NoName => Told {
-            number: 5,
-            place: 0,
-        },
-        Refusal::NoRecord(length) => Told {
-            number: 6,
-            place: length,
-        },
-        Refusal::BadLayout(byte) => Told {
-            number: 7,
-            place: byte,
-        },
-    }
-}
-
-// The line that a program prints where it is refused: "refused N".
-pub fn refusal_line(refusal: Refusal) -> [u8; 10]
-    ensures { λ r. ⌜ 10 ≡ length r ⌝ }
-    ensures { λ r. ⌜ r ≡ refusedLine refusal ⌝ }
-{
-    let told = tell(refusal);
-    let mut line = *b"refused 0\n";
-    line[8] = b'0' + told.number as u8;
-    line
 }
 
 // Over 10FFFF, or a surrogate.

@@ -1,5 +1,4 @@
-// The kinds of call on code points: 1 the sorter, 2 the one step, 3 full parts, 4 joining, 5 simple
-// form, 6 gathered form, 7 filler groups.
+// The answers of the calls on one code point as four numbers: 1 the sorter, 2 the one step.
 // Not here: how a call comes in and an answer goes out.
 use crate::reply;
 use crate::reply::Reply;
@@ -25,7 +24,7 @@ fn number_of(sort: Sort) -> u32 {
     }
 }
 
-fn sorted(answer: Sorted) -> Reply {
+pub fn sorted(answer: Sorted) -> Reply {
     match answer {
         Sorted::Is(sort) => reply::done(number_of(sort), 0, 0),
         Sorted::Refused(refusal) => reply::refused(refusal),
@@ -39,21 +38,9 @@ fn parts(parts: Parts) -> Reply {
     }
 }
 
-fn stepped(answer: Stepped) -> Reply {
+pub fn stepped(answer: Stepped) -> Reply {
     match answer {
         Stepped::Into(into) => parts(into),
         Stepped::Refused(refusal) => reply::refused(refusal),
-    }
-}
-
-pub fn call(kind: u32, code: u32, text: &[u32], out: &mut [u32]) -> Reply {
-    match kind {
-        1 => sorted(letters::sort::sorter(code)),
-        2 => stepped(letters::step::one_step(code)),
-        3 => reply::filled(letters_apart::full_parts(text, out)),
-        4 => reply::filled(joining_text::join(text, out)),
-        5 => reply::filled(clusters_simple::simple_form(text, out)),
-        6 => reply::filled(clusters_gathered::gathered_form(text, out)),
-        _ => reply::filled(fillers::groups::turn(text, out)),
     }
 }

@@ -54,13 +54,15 @@ fn most_of_b(kind: u32) -> usize {
     }
 }
 
-// What a kind asks of its other numbers.
+// Is there such a kind, and has it what it asks of its other numbers?
 fn is_kept(head: Head) -> bool {
     let kind = head.kind;
     match kind {
+        1..=14 => true,
         15 => 96 <= head.room,
+        16..=18 => true,
         19 => head.z < 0x1_0000 && head.w <= 1,
-        _ => true,
+        _ => false,
     }
 }
 

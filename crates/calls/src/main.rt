@@ -3,6 +3,7 @@
 mod codes;
 mod encoded;
 mod heads;
+mod kinds;
 mod labelled;
 mod named;
 mod ranked;
@@ -72,129 +73,40 @@ fn write_bytes(answer: reply::Reply, lent: &[u8], bytes: &mut [u8]) -> bool {
     io::write_all(libc::STDOUT_FILENO, lent)
 }
 
-// A call on code points that fills code points: reads its elements, calls, and answers.
-fn answer_codes(
-    kind: u32,
-    code: u32,
-    text: &mut [u32],
-    lent: &mut [u32],
-    bytes: &mut [u8],
-) -> bool {
+// The four doors, by what comes in and what is lent: each reads the elements, calls, and answers.
+fn answer_codes(head: Head, text: &mut [u32], lent: &mut [u32], bytes: &mut [u8]) -> bool {
     if !read_numbers(bytes, text) {
         return false;
     }
     wire::fill(lent);
-    let answer = codes::call(kind, code, text, lent);
+    let answer = kinds::codes_to_codes(head, text, lent);
     write_answer(answer, lent, bytes)
 }
 
-// Reading UTF-8: bytes in, code points out.
-fn answer_read(text: &mut [u8], lent: &mut [u32], bytes: &mut [u8]) -> bool {
-    if !read_whole(text) {
-        return false;
-    }
-    wire::fill(lent);
-    let answer = encoded::read(text, lent);
-    write_answer(answer, lent, bytes)
-}
-
-// Writing UTF-8: code points in, bytes out.
-fn answer_write(text: &mut [u32], lent: &mut [u8], bytes: &mut [u8]) -> bool {
+fn answer_written(head: Head, text: &mut [u32], lent: &mut [u8], bytes: &mut [u8]) -> bool {
     if !read_numbers(bytes, text) {
         return false;
     }
     wire::fill_bytes(lent);
-    let answer = encoded::write(text, lent);
+    let answer = kinds::codes_to_bytes(head, text, lent);
     write_bytes(answer, lent, bytes)
 }
 
-// Mending: bytes in, bytes out.
-fn answer_mend(text: &mut [u8], lent: &mut [u8], bytes: &mut [u8]) -> bool {
+fn answer_read(head: Head, text: &mut [u8], lent: &mut [u32], bytes: &mut [u8]) -> bool {
     if !read_whole(text) {
-        return false;
-    }
-    wire::fill_bytes(lent);
-    let answer = encoded::mend(text, lent);
-    write_bytes(answer, lent, bytes)
-}
-
-// Naming: a code in, bytes out. It takes no elements, and those that come are passed over.
-fn answer_name(code: u32, text: &mut [u32], lent: &mut [u8], bytes: &mut [u8]) -> bool {
-    if !read_numbers(bytes, text) {
-        return false;
-    }
-    wire::fill_bytes(lent);
-    let answer = named::name(code, lent);
-    write_bytes(answer, lent, bytes)
-}
-
-// Reading a name: bytes in. It fills nothing.
-fn answer_read_name(text: &mut [u8], lent: &mut [u8], bytes: &mut [u8]) -> bool {
-    if !read_whole(text) {
-        return false;
-    }
-    wire::fill_bytes(lent);
-    let answer = named::read(text);
-    write_bytes(answer, lent, bytes)
-}
-
-// Ranking code points: those of the first label and then those of the second. It fills nothing.
-fn answer_rank(first: usize, text: &mut [u32], lent: &mut [u32], bytes: &mut [u8]) -> bool {
-    if !read_numbers(bytes, text) {
         return false;
     }
     wire::fill(lent);
-    let answer = ranked::codes(text, first);
+    let answer = kinds::bytes_to_codes(head, text, lent);
     write_answer(answer, lent, bytes)
 }
 
-// Ranking bytes, likewise.
-fn answer_rank_bytes(first: usize, text: &mut [u8], lent: &mut [u8], bytes: &mut [u8]) -> bool {
+fn answer_filled(head: Head, text: &mut [u8], lent: &mut [u8], bytes: &mut [u8]) -> bool {
     if !read_whole(text) {
         return false;
     }
     wire::fill_bytes(lent);
-    let answer = ranked::encoded(text, first);
-    write_bytes(answer, lent, bytes)
-}
-
-// Reading one record of an image: bytes in, the label out.
-fn answer_record(number: usize, image: &mut [u8], lent: &mut [u8], bytes: &mut [u8]) -> bool {
-    if !read_whole(image) {
-        return false;
-    }
-    wire::fill_bytes(lent);
-    let answer = labelled::record(image, number, lent);
-    write_bytes(answer, lent, bytes)
-}
-
-// Reading a whole image. It fills nothing.
-fn answer_image(image: &mut [u8], lent: &mut [u8], bytes: &mut [u8]) -> bool {
-    if !read_whole(image) {
-        return false;
-    }
-    wire::fill_bytes(lent);
-    let answer = labelled::image(image);
-    write_bytes(answer, lent, bytes)
-}
-
-// The order of an image's records: bytes in, numbers out.
-fn answer_order(image: &mut [u8], lent: &mut [u32], bytes: &mut [u8]) -> bool {
-    if !read_whole(image) {
-        return false;
-    }
-    wire::fill(lent);
-    let answer = labelled::order(image, lent);
-    write_answer(answer, lent, bytes)
-}
-
-// A fresh record. It takes no elements, and those that come are passed over.
-fn answer_fresh(text: &mut [u8], lent: &mut [u8], bytes: &mut [u8]) -> bool {
-    if !read_whole(text) {
-        return false;
-    }
-    wire::fill_bytes(lent);
-    let answer = labelled::fresh(lent);
+    let answer = kinds::bytes_to_bytes(head, text, lent);
     write_bytes(answer, lent, bytes)
 }
 
@@ -210,7 +122,7 @@ fn answer_writing(head: Head, image: &mut [u8], label: &mut [u8], bytes: &mut [u
     write_bytes(answer, image, bytes)
 }
 
-// A call whose elements are code points.
+// A call whose elements are code points: those of a and then those of b.
 fn answer_text(
     head: Head,
     text: &mut [u32],
@@ -218,8 +130,6 @@ fn answer_text(
     filled: &mut [u8],
     bytes: &mut [u8],
 ) -> bool {
-    let kind = head.kind;
-    let code = head.x;
     let room = head.room;
     let first = head.first;
     let second = head.second;
@@ -236,11 +146,10 @@ fn answer_text(
         return false;
     }
     let both = first + second;
+    let kind = head.kind;
     match kind {
-        8 => answer_name(code, &mut text[..first], &mut filled[..room], bytes),
-        11 => answer_write(&mut text[..first], &mut filled[..room], bytes),
-        13 => answer_rank(first, &mut text[..both], &mut lent[..room], bytes),
-        _ => answer_codes(kind, code, &mut text[..first], &mut lent[..room], bytes),
+        8 | 11 => answer_written(head, &mut text[..both], &mut filled[..room], bytes),
+        _ => answer_codes(head, &mut text[..both], &mut lent[..room], bytes),
     }
 }
 
@@ -253,8 +162,6 @@ fn answer_bytes(
     filled: &mut [u8],
     bytes: &mut [u8],
 ) -> bool {
-    let kind = head.kind;
-    let number = head.x as usize;
     let room = head.room;
     let first = head.first;
     let second = head.second;
@@ -274,42 +181,17 @@ fn answer_bytes(
         return false;
     }
     let both = first + second;
+    let kind = head.kind;
     match kind {
-        9 => answer_read_name(&mut input[..first], &mut filled[..room], bytes),
-        10 => answer_read(&mut input[..first], &mut lent[..room], bytes),
-        12 => answer_mend(&mut input[..first], &mut filled[..room], bytes),
-        14 => answer_rank_bytes(first, &mut input[..both], &mut filled[..room], bytes),
-        15 => answer_fresh(&mut input[..first], &mut filled[..room], bytes),
-        16 => answer_record(number, &mut input[..first], &mut filled[..room], bytes),
-        17 => answer_image(&mut input[..first], &mut filled[..room], bytes),
-        18 => answer_order(&mut input[..first], &mut lent[..room], bytes),
+        10 | 18 => answer_read(head, &mut input[..both], &mut lent[..room], bytes),
         19 => answer_writing(head, &mut input[..first], &mut filled[..second], bytes),
-        _ => false,
+        _ => answer_filled(head, &mut input[..both], &mut filled[..room], bytes),
     }
 }
 
-// Answers the call whose head was read, and says whether to go on: no where it is of no kind, too
-// large, or breaks another bound of its kind.
+// Reads a call and answers it, and says whether to go on: no at the end of the input, and where the
+// call is of no kind, too large, or breaks another bound of its kind.
 fn answer_call(
-    head: &[u8],
-    text: &mut [u32],
-    input: &mut [u8],
-    lent: &mut [u32],
-    filled: &mut [u8],
-    bytes: &mut [u8],
-) -> bool {
-    let head = heads::read(head);
-    if !heads::is_good(head) {
-        return false;
-    }
-    if heads::is_of_text(head.kind) {
-        return answer_text(head, text, lent, filled, bytes);
-    }
-    answer_bytes(head, input, lent, filled, bytes)
-}
-
-// Answers one call: false at the end of the input, and where a call is no good.
-fn one_call(
     head: &mut [u8],
     text: &mut [u32],
     input: &mut [u8],
@@ -320,7 +202,14 @@ fn one_call(
     if !read_whole(head) {
         return false;
     }
-    answer_call(head, text, input, lent, filled, bytes)
+    let head = heads::read(head);
+    if !heads::is_good(head) {
+        return false;
+    }
+    if heads::is_of_text(head.kind) {
+        return answer_text(head, text, lent, filled, bytes);
+    }
+    answer_bytes(head, input, lent, filled, bytes)
 }
 
 // A proved loop has to end, and nothing says that the input does: it counts its turns down from a
@@ -334,7 +223,7 @@ fn all_calls(
     bytes: &mut [u8],
 ) {
     let mut turns = u64::MAX;
-    while turns > 0 && one_call(head, text, input, lent, filled, bytes) {
+    while turns > 0 && answer_call(head, text, input, lent, filled, bytes) {
         turns -= 1;
     }
 }

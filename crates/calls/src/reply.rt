@@ -44,7 +44,7 @@ pub fn bad_record(number: usize, byte: usize) -> Reply {
 }
 
 pub fn refused(refusal: Refusal) -> Reply {
-    let told = answers::tell(refusal);
+    let told = answers_told::tell(refusal);
     Reply {
         refusal: told.number,
         value: short(told.place),

@@ -1,7 +1,7 @@
 -- The table of 768 numbers, and its rows by value. In order: one test over all 256 rows, which antt computes, and what it says of a table (`rows-right`);
 -- a row as the code reads it, inside the table and where a code is alone (`row-read`, `row-short`, `row-below`, `row-above`); the letters of a row by value
 -- (`by-one`, `by-two`, `by-three`); a row of the table by value (`row-of`), whose letters are those of every number (`letters-by`).
--- Not here: the table, which stands in the code, and its rule (proofs/Rule). Assumes nothing.
+-- Not here: the table, which stands in the code (crate clusters_table), and its rule (proofs/Rule). Assumes nothing.
 use mathlib.Core.Path.{_≡_, refl, sym, _∙_, ap}
 use mathlib.Core.Bool.{Bool, true, false, _&&_}
 use mathlib.Core.List.{List, [], _∷_, _++_}

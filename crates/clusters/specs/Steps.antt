@@ -2,7 +2,7 @@
 -- `orZero`); gathering as a machine that carries the letters not yet decided, and a step of it; joining behind it, and the parts of each code point before
 -- it, as one machine (`coded`).
 -- Not here: the gathered form itself (specs/Gathering), the laws that these give it (proofs/Clustering, proofs/GatheredForm), what is written with both
--- states by value (crate clusters_gathered). Assumes nothing.
+-- states by value (crate clusters_writing). Assumes nothing.
 use mathlib.Core.Path.{_≡_}
 use mathlib.Core.Option.{Option, none, some}
 use mathlib.Core.List.{List, [], _∷_}

@@ -1,5 +1,5 @@
 -- What the code has at each return of the functions that gather. In order: rows compared; a step of the gatherer and its end.
--- Not here: the laws of a look-up and of gathered form (crate clusters), of what is written (crate clusters_gathered). Assumes nothing.
+-- Not here: the laws of a look-up and of gathered form (crate clusters), of what is written (crate clusters_writing). Assumes nothing.
 use mathlib.Core.Path.{_≡_, refl}
 use mathlib.Core.Bool.{false}
 use mathlib.Core.List.{[], _∷_}

@@ -1,11 +1,10 @@
 // Crate clusters_gathering: letters gathered into clusters, one letter at a time (document 01, 'Simple letters and clusters'):
 // what is not yet decided goes in by value and comes back. Every function takes every table and every
-// number; what it promises holds where the table is the one of clusters::table.
-// Not here: the table, and the types (crate clusters), a whole text (crate clusters_gathered).
+// number; what it promises holds where the table is the one of crate clusters_table.
+// Not here: the table (crate clusters_table), the types (crate clusters), a whole text (crate clusters_gathered).
 use clusters::gathering::Gathered;
 use clusters::gathering::Pending;
 use clusters::gathering::Span;
-use clusters::table;
 use clusters::table::Row;
 use joining::joiner::Emitted;
 ghost use mathlib.Core.Path.{_≡_};
@@ -73,7 +72,7 @@ fn row_between(row: Row, table: &[u16], span: Span) -> u32
 {
     let mut code = span.low;
     while code < span.high {
-        if same_row(table::row_at(table, code), row) {
+        if same_row(clusters_table::row_at(table, code), row) {
             return code;
         }
         code += 1;

@@ -1,11 +1,9 @@
 // Crate clusters_simple: the simple form of a text (document 01, 'Simple letters and clusters'): full parts, and of each its letters.
-// Not here: the table (clusters::table), the one step of taking apart (letters::step), gathering (crates clusters_gathering, clusters_gathered).
+// Not here: the table (crate clusters_table), the one step of taking apart (crate letters_step), gathering (crates clusters_gathering, clusters_gathered).
 use answers::Checked;
 use answers::Filled;
 use answers::Refusal;
-use clusters::table;
 use clusters::table::Row;
-use letters::step;
 use letters::step::Parts;
 ghost use mathlib.Core.Path.{_≡_};
 ghost use Prim.Native.Nat.{_≤_};
@@ -40,11 +38,11 @@ fn put_simple(code: u32, table: &[u16], out: &mut [u32], at: usize, depth: u32) 
     ensures { λ r. ⌜ Wrote (now (out .entry)) at (simpleBy (now (table .entry)) depth code) r (now (out .exit)) ⌝ }
 {
     if depth == 0 {
-        return put_row(table::row_at(table, code), out, at);
+        return put_row(clusters_table::row_at(table, code), out, at);
     }
-    let parts = step::parts_of(code);
+    let parts = letters_step::parts_of(code);
     match parts {
-        Parts::One(only) => put_row(table::row_at(table, only), out, at),
+        Parts::One(only) => put_row(clusters_table::row_at(table, only), out, at),
         Parts::Two(first, second) => {
             let next = put_simple(first, table, out, at, depth - 1);
             put_simple(second, table, out, next, depth - 1)
@@ -124,7 +122,7 @@ fn simple_checked(text: &[u32], out: &mut [u32]) -> Filled
     requires { ⌜ takesText (now text) ≡ passes ⌝ }
     ensures { λ r. ⌜ Makes simple (now (text .entry)) (now (out .entry)) r (now (out .exit)) ⌝ }
 {
-    let table = table::table();
+    let table = clusters_table::table();
     let needed = simple_lacking(text, &table, out.len());
     if needed != 0 {
         return Filled::Refused(Refusal::NoRoom(needed));

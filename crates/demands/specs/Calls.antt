@@ -23,9 +23,10 @@ use Rattle.letters.specs.declared.sort.Sort.{Sort}
 use Rattle.letters.specs.declared.sort.Sorted.{Sorted}
 use Rattle.letters.specs.declared.step.Parts.{Parts}
 use Rattle.letters.specs.declared.step.Stepped.{Stepped as OneStepped}
-use Rattle.joining.specs.Joining.{roleOf, pair, joinStep, joinEmit, held, join}
+use Rattle.joining_role.specs.Roles.{roleOf, pair}
+use Rattle.joining_role.specs.declared.Role.{Role}
+use Rattle.joining.specs.Joining.{joinStep, joinEmit, held, join}
 use Rattle.joining.specs.Steps.{emitted, Stepped}
-use Rattle.joining.specs.declared.role.Role.{Role}
 use Rattle.joining.specs.declared.joiner.Joiner.{Joiner}
 use Rattle.joining.specs.declared.joiner.Open.{Open}
 use Rattle.joining.specs.declared.joiner.Open.the-variants.{Nothing}
@@ -77,11 +78,11 @@ asC a = told-c (a .refusal) a
 
 -- ---- answers
 
--- `answers::tell`
+-- `answers_told::tell`
 abbrev pub Tell : Type 0
 Tell = (refusal : Refusal) (r : Told) → r ≡ told refusal → Answers (told refusal) r
 
--- `answers::refusal_line`
+-- `answers_told::refusal_line`
 abbrev pub RefusalLine : Type 0
 RefusalLine = (refusal : Refusal) (r : List ℕ) → 10 ≡ length r → r ≡ refusedLine refusal → Answers (refusedLine refusal) r
 
@@ -117,11 +118,11 @@ Sorter =
     (code : ℕ) (r : Sorted) → sorted r ≡ verdict (badCodePoint (code ∷ [])) (sortOf code)
     → Demand1 {A = ℕ} (badCodePoint (code ∷ []) ∷ []) (sortOf code) [] [] (sorted r) []
 
--- `letters::step::parts_of`
+-- `letters_step::parts_of`
 abbrev pub PartsOf : Type 0
 PartsOf = (code : ℕ) (r : Parts) → listed r ≡ oneStep code → Answers (oneStep code) (listed r)
 
--- `letters::step::one_step`: 2
+-- `letters_step::one_step`: 2
 abbrev pub OneStep : Type 0
 OneStep =
     (code : ℕ) (r : OneStepped) → stepped r ≡ verdict (badCodePoint (code ∷ [])) (oneStep code)
@@ -146,11 +147,11 @@ FullParts = (text out out′ : List ℕ) (r : Filled) → Makes fullParts text o
 
 -- ---- joining
 
--- `joining::role::role_of`
+-- `joining_role::role_of`
 abbrev pub RoleOf : Type 0
 RoleOf = (code : ℕ) (r : Role) → r ≡ roleOf code → Answers (roleOf code) r
 
--- `joining::role::joined`
+-- `joining_role::joined`
 abbrev pub Joined : Type 0
 Joined = (first second : ℕ) (r : ℕ) → r ≡ pair first second → Answers (pair first second) r
 
@@ -174,7 +175,7 @@ Join = (text out out′ : List ℕ) (r : Filled) → Makes join text out r out�
 
 -- ---- utf8
 
--- `utf8::read::read_at`
+-- `utf8_at::read_at`
 abbrev pub ReadAt : Type 0
 ReadAt = (text : List ℕ) (at : ℕ) (r : Taken) → r ≡ takenFrom (pieces kindOf (drop at text)) → Answers (takenFrom (pieces kindOf (drop at text))) r
 
@@ -182,11 +183,11 @@ ReadAt = (text : List ℕ) (at : ℕ) (r : Taken) → r ≡ takenFrom (pieces ki
 abbrev pub ReadText : Type 0
 ReadText = (text out out′ : List ℕ) (r : Read) → Reads readText text out r out′ → OfBytes readText text out r out′
 
--- `utf8_write::size_of`
+-- `utf8_put::size_of`
 abbrev pub SizeOf : Type 0
 SizeOf = (code : ℕ) (r : ℕ) → r ≡ length (bytesOf code) → Answers (length (bytesOf code)) r
 
--- `utf8_write::put_at`: it refuses nothing; where there is no room it writes nothing
+-- `utf8_put::put_at`: it refuses nothing; where there is no room it writes nothing
 abbrev pub PutAt : Type 0
 PutAt =
     (code : ℕ) (out : List ℕ) (at : ℕ) (out′ : List ℕ) (r : ℕ) → Wrote out at (fitting code out at) r out′
@@ -236,7 +237,7 @@ SimpleForm = (text out out′ : List ℕ) (r : Filled) → Makes simple text out
 abbrev pub GatheredForm : Type 0
 GatheredForm = (text out out′ : List ℕ) (r : Filled) → Makes gathered text out r out′ → OfText gathered text out r out′
 
--- `fillers::groups::turn`: 1, 2, 3
+-- `fillers_text::turn`: 1, 2, 3
 abbrev pub Turn : Type 0
 Turn = (text out out′ : List ℕ) (r : Filled) → Makes turned text out r out′ → OfText turned text out r out′
 

@@ -5,4 +5,3 @@ pub mod Demand1
 pub mod Calls
 pub mod Demand2
 pub mod Demand3
-pub mod Cases

@@ -1,5 +1,5 @@
 -- Laws of the letters of KS X 1001: I, P and F of one code point. In order: by its range; as the code reads them from its table; that the filler is no
--- initial and no peak; their bounds; what 99, and any other number, says of what was read, and that the code's sum of three fits (`sum-fits`).
+-- initial and no peak; their bounds; what 99, and any other number, says of what was read, and the most that is read of a peak.
 -- Not here: the table (proofs/Table), four code points together (proofs/Fours). Assumes nothing.
 use mathlib.Core.Path.{_≡_, refl, sym, _∙_, ap}
 use mathlib.Core.Bool.{Bool, true, false, cond}
@@ -13,7 +13,6 @@ use borrow.Author.Tests.{eq-eqb, ne-eqb, lt-ltb, ltb-true}
 use Rattle.laws.specs.Ranges.{within}
 use Rattle.laws.proofs.Bools.{T-true, true-T}
 use Rattle.laws.proofs.Ranges.{within-yes, within-below, within-above, within-least, within-most}
-use Rattle.letters.proofs.Steps.{syllable}
 use Rattle.fillers.specs.Groups.{initial, pairs, initialIn, finalIn, asInitial, asPeak, asFinal}
 use Rattle.fillers.specs.Codes.{orNone, Pairs}
 use Rattle.fillers.proofs.Table.{below, initials-below, finals-below}
@@ -117,16 +116,10 @@ pub read-some : (o : Option ℕ) {r : ℕ} → r ≡ orNone o → (r ≡ 99 → 
 read-some none e n = absurd (n e)
 read-some (some k) e n = rw e
 
--- and each is small: the code's sum of three that were read fits
-read-most : (n : ℕ) (o : Option ℕ) → T (below n o) → n ≤ 99 → orNone o ≤ 99
-read-most n none t h = omega arith
-read-most n (some k) t h = omega (arith, below-some n (some k) t refl)
-
-pub sum-fits : (a b c : ℕ) {i p f : ℕ} → i ≡ orNone (asInitial a) → p ≡ orNone (asPeak b) → f ≡ orNone (asFinal c) → syllable i p f < 0x20000
-sum-fits a b c e q r =
-    omega (
-      arith,
-      read-most 19 (asInitial a) (initial-below a) (omega arith),
-      read-most 21 (asPeak b) (peak-below b) (omega arith),
-      read-most 28 (asFinal c) (final-below c) (omega arith),
-    )
+-- and what was read of a peak is small, so that the code's sum fits
+pub peak-most : (c : ℕ) {p : ℕ} → p ≡ orNone (asPeak c) → p ≤ 99
+peak-most c {p} e = rw e (by (asPeak c) (peak-below c))
+  where
+    by : (o : Option ℕ) → T (below 21 o) → orNone o ≤ 99
+    by none t = omega arith
+    by (some k) t = omega (arith, below-some 21 (some k) t refl)

@@ -1,7 +1,6 @@
 // The joiner: what is still open goes in by value and comes back (document 01, 'Syllables').
 // Every function takes every joiner and every number. Not here: a whole text (crate joining_text).
-use crate::role;
-use crate::role::Role;
+use joining_role::Role;
 ghost use mathlib.Core.Path.{_≡_};
 ghost use mathlib.Core.List.{_++_};
 ghost use Rattle.joining.specs.Joining.{opens, held, meets, unless};
@@ -37,7 +36,7 @@ pub struct Step {
 fn opened(code: u32) -> Open
     ensures { λ r. ⌜ r ≡ opens code ⌝ }
 {
-    let role = role::role_of(code);
+    let role = joining_role::role_of(code);
     match role {
         Role::Initial => Open::Initial(code),
         Role::Peak => Open::Nothing,
@@ -53,8 +52,8 @@ fn met(state: Open, code: u32) -> u32
 {
     match state {
         Open::Nothing => 0,
-        Open::Initial(initial) => role::joined(initial, code),
-        Open::Lv(syllable) => role::joined(syllable, code),
+        Open::Initial(initial) => joining_role::joined(initial, code),
+        Open::Lv(syllable) => joining_role::joined(syllable, code),
     }
 }
 

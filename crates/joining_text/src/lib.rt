@@ -1,5 +1,5 @@
 // Joining a text of code points into a lent buffer (document 01, 'Syllables').
-// Not here: the definitions, and the joiner's step (crate joining).
+// Not here: the definitions, and the joiner's step (crate joining), what a step wrote put into a buffer (joining_put).
 use answers::Checked;
 use answers::Filled;
 use answers::Refusal;
@@ -8,7 +8,7 @@ use joining::joiner::Joiner;
 ghost use mathlib.Core.Path.{_≡_};
 ghost use Prim.Native.Nat.{_≤_};
 ghost use lib.ListN.{length};
-ghost use Rattle.laws.specs.Writing.{Room, Wrote, Fronts};
+ghost use Rattle.laws.specs.Writing.{Fronts};
 ghost use Rattle.answers.specs.Checks.{lacking, passes, takesText};
 ghost use Rattle.answers.specs.Answers.{Makes};
 ghost use Rattle.joining.specs.Joining.{join};
@@ -22,25 +22,6 @@ fn count_of(out: Emitted) -> usize
         Emitted::Empty => 0,
         Emitted::One(_) => 1,
         Emitted::Two(_, _) => 2,
-    }
-}
-
-// Writes what a step wrote from `at` on, and answers the index behind it.
-fn put(emit: Emitted, out: &mut [u32], at: usize) -> usize
-    requires { ⌜ Room (now out) at (emitted emit) ⌝ }
-    ensures { λ r. ⌜ Wrote (now (out .entry)) at (emitted emit) r (now (out .exit)) ⌝ }
-{
-    match emit {
-        Emitted::Empty => at,
-        Emitted::One(only) => {
-            out[at] = only;
-            at + 1
-        }
-        Emitted::Two(first, second) => {
-            out[at] = first;
-            out[at + 1] = second;
-            at + 2
-        }
     }
 }
 
@@ -90,10 +71,10 @@ fn write_joined(text: &[u32], out: &mut [u32]) -> usize
         let step = joiner.step(text[read]);
         joiner = step.joiner;
         let emit = step.out;
-        at = put(emit, out, at);
+        at = joining_put::put(emit, out, at);
         read += 1;
     }
-    put(joiner.flush(), out, at)
+    joining_put::put(joiner.flush(), out, at)
 }
 
 // A text that has passed its checks: refusal 3 or done.

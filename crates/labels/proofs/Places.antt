@@ -1,29 +1,25 @@
 -- The first ill-formed subpart of a text, and the first byte that is not zero.
 --
 -- In order: the first ill-formed subpart is before the end exactly where there is one (`ill-none`, `ill-some`, `formed-end`); what a loop that
--- looks for it keeps, at an index (`ill-next`, `ill-here`, `ill-end`); so the first byte that is not zero (`set-next`, `set-here`, `set-end`), and
--- that there is none exactly in zeros (`set-zeros`, `zeros-set`).
--- Not here: what they say of a record (proofs/Layouts).
+-- looks for the first byte that is not zero keeps, at an index (`set-next`, `set-here`, `set-end`), and that there is none exactly in zeros
+-- (`set-zeros`, `zeros-set`).
+-- Not here: a loop that looks for an ill-formed subpart (crate labels_ill), what they say of a record (proofs/Layouts).
 -- Assumes nothing.
-use mathlib.Core.Path.{_≡_, refl, sym, _∙_, ap}
+use mathlib.Core.Path.{_≡_, refl, ap}
 use mathlib.Core.Bool.{Bool, true, false, cond}
 use mathlib.Core.List.{List, [], _∷_}
 use Prim.Native.Nat.{ℕ, zero, suc, _+_, _≤_, _<_}
 use native.Mathlib.Numerals.{add-one}
 use native.Mathlib.Omega.{arith}
 use lib.Dec.{eqb}
-use lib.ListN.{length, getD, drop, length-append, length-drop, drop-of-length-le}
+use lib.ListN.{length, getD, drop, length-append, drop-of-length-le}
 use lib.Seq.{drop-cons}
 use borrow.Author.Tests.{eq-eqb, ne-eqb, eqb-true, eqb-false}
-use Rattle.laws.specs.Pieces.{Piece, good, ill, unitsOf, pieces, illCount}
+use Rattle.laws.specs.Pieces.{Piece, illCount}
 use Rattle.laws.specs.Readings.{Reading, nothing, formed, broken}
 use Rattle.laws.proofs.Bools.{test}
-use Rattle.laws.proofs.Pieces.{unitsOf-pieces}
 use Rattle.utf8.specs.Table37.{kindOf}
 use Rattle.utf8.specs.Utf8.{illText}
-use Rattle.utf8.specs.Reading.{takenFrom}
-use Rattle.utf8.specs.declared.read.Taken.{Taken}
-use Rattle.utf8.proofs.Takes.{behind}
 use Rattle.utf8.proofs.Reading.{reading8, maximal-some}
 use Rattle.labels.specs.Records.{zeros, illIn, firstIll, firstSet}
 
@@ -55,34 +51,6 @@ module _ (text : List ℕ) where
   formed-end h =
       test (eqb (illText text) 0) (λ e. eqb-true (illText text) 0 e)
       (λ e. absurd (omega (arith, ill-some (eqb-false (illText text) 0 e))))
-
--- ---- at a loop's index: n is the index wanted, and r was taken there
-
-module _ (text : List ℕ) (at n : ℕ) where
-  taken-next : (P : List (Piece ℕ)) → pieces kindOf (drop at text) ≡ P → at < length text → takenFrom P .ill ≡ 0
-      → illIn P ≡ takenFrom P .size + illIn (pieces kindOf (drop (at + takenFrom P .size) text))
-  taken-next [] e h q = absurd (omega (arith, length-drop at text, ap length (sym (unitsOf-pieces kindOf (drop at text)) ∙ ap unitsOf e)))
-  taken-next (good u ∷ P) e h q = rw (behind text at (good u) P e)
-  taken-next (ill u ∷ P) e h q = absurd (omega arith)
-
-  taken-here : (P : List (Piece ℕ)) → (takenFrom P .ill ≡ 0 → ⊥) → illIn P ≡ 0
-  taken-here [] q = refl
-  taken-here (good u ∷ P) q = absurd (q refl)
-  taken-here (ill u ∷ P) q = refl
-
-  module _ {r : Taken} (taken : r ≡ takenFrom (pieces kindOf (drop at text))) where
-    pub ill-next : at < length text → r .ill ≡ 0 → at + firstIll (drop at text) ≡ n → at + r .size + firstIll (drop (at + r .size) text) ≡ n
-    unfolding firstIll
-    ill-next h q e =
-        rw taken (omega (arith, taken-next (pieces kindOf (drop at text)) refl h (rw taken at q), e))
-
-    pub ill-here : (r .ill ≡ 0 → ⊥) → at + firstIll (drop at text) ≡ n → at ≡ n
-    unfolding firstIll
-    ill-here q e = omega (arith, taken-here (pieces kindOf (drop at text)) (rw taken at q), e)
-
-  pub ill-end : length text ≤ at → at + firstIll (drop at text) ≡ n → at ≡ n
-  unfolding firstIll
-  ill-end h e = omega (arith, rw (drop-of-length-le text h) at e)
 
 -- ---- the first byte that is not zero, at a loop's index: n is the index wanted
 

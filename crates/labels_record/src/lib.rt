@@ -1,28 +1,36 @@
 // Crate labels_record: what a record of an image says, of any image: its entry, its label, its berth.
-// Not here: whether it keeps its layout (crate labels_image).
+// Not here: whether it keeps its layout (crate labels_fault).
 use labels::layout::Entry;
 ghost use mathlib.Core.Path.{_≡_};
+ghost use Prim.Native.Nat.{_+_, _*_, _<_};
 ghost use lib.ListN.{length};
-ghost use Rattle.labels.specs.Records.{entryOf};
+ghost use Rattle.labels.specs.Records.{objectOf, entryOf};
 ghost use Rattle.labels.specs.Images.{labelAt, berthAt, entryAt};
 
-// A byte as a number that it is counted in.
-fn wide(byte: u8) -> u32
-    ensures { λ r. ⌜ r ≡ byte ⌝ }
+// The number of two bytes, high byte first.
+fn two(high: u8, low: u8) -> u32
+    ensures { λ r. ⌜ r ≡ high * 0x100 + low ⌝ }
+    ensures { λ r. ⌜ r < 0x10000 ⌝ }
 {
-    byte as u32
+    high as u32 * 0x100 + low as u32
 }
 
-// What a record says, high byte first.
+// The object of a record.
+fn object_of(bytes: &[u8]) -> u32
+    requires { ⌜ length (now bytes) ≡ 96 ⌝ }
+    ensures { λ r. ⌜ r ≡ objectOf (now (bytes .entry)) ⌝ }
+{
+    two(bytes[0], bytes[1]) * 0x10000 + two(bytes[2], bytes[3])
+}
+
+// What a record says.
 fn entry_of(bytes: &[u8]) -> Entry
     requires { ⌜ length (now bytes) ≡ 96 ⌝ }
     ensures { λ r. ⌜ r ≡ entryOf (now (bytes .entry)) ⌝ }
 {
-    let high = wide(bytes[0]) * 0x1000000 + wide(bytes[1]) * 0x10000;
-    let low = wide(bytes[2]) * 0x100 + wide(bytes[3]);
     Entry {
-        object: high + low,
-        berth: bytes[4] as u16 * 0x100 + bytes[5] as u16,
+        object: object_of(bytes),
+        berth: two(bytes[4], bytes[5]) as u16,
         length: bytes[6] as usize,
     }
 }

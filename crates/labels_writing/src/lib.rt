@@ -1,11 +1,9 @@
 // Crate labels_writing: writing a record into its own place in the middle of an image: the 96 bytes of that place alone change.
-// Not here: reading (crate labels_image), what both share (crate labels).
+// Not here: the record's bytes and its place (crate labels_storing), reading (crate labels_image), what both share (crate labels).
 use answers::Checked;
 use answers::Refusal;
-use labels::copying;
 use labels::image;
 use labels::image::Form;
-use labels::layout;
 use utf8::read::Read;
 ghost use mathlib.Core.Path.{_≡_};
 ghost use mathlib.Core.List.{[], _∷_};
@@ -14,48 +12,8 @@ ghost use lib.ListN.{length};
 ghost use Rattle.answers.specs.Checks.{passes, inOrder, takesBytes};
 ghost use Rattle.answers.specs.Answers.{checked};
 ghost use Rattle.mending.specs.Mending.{mended};
-ghost use Rattle.labels.specs.Records.{recordOf};
-ghost use Rattle.labels.specs.Images.{replaced, overImage, noRecord, Writes};
+ghost use Rattle.labels.specs.Images.{overImage, noRecord, Writes};
 ghost use Rattle.labels.specs.Steps.{Stores};
-
-// A fresh record, filled.
-fn filled(object: u32, berth: u16, label: &[u8]) -> [u8; 96]
-    requires { ⌜ length (now label) ≤ 88 ⌝ }
-    ensures { λ r. ⌜ 96 ≡ length r ⌝ }
-    ensures { λ r. ⌜ r ≡ recordOf object berth (now (label .entry)) ⌝ }
-{
-    let mut record = layout::fresh();
-    record[0] = (object / 0x1000000) as u8;
-    record[1] = (object / 0x10000 % 0x100) as u8;
-    record[2] = (object / 0x100 % 0x100) as u8;
-    record[3] = (object % 0x100) as u8;
-    record[4] = (berth / 0x100) as u8;
-    record[5] = (berth % 0x100) as u8;
-    record[6] = label.len() as u8;
-    copying::copy(label, &mut record[8..]);
-    record
-}
-
-// Writes a record over the 96 bytes that are lent.
-fn put(place: &mut [u8], object: u32, berth: u16, label: &[u8])
-    requires { ⌜ length (now place) ≡ 96 ⌝ }
-    requires { ⌜ length (now label) ≤ 88 ⌝ }
-    ensures { λ r. ⌜ now (place .exit) ≡ recordOf object berth (now (label .entry)) ⌝ }
-{
-    let record = filled(object, berth, label);
-    copying::copy(&record, place);
-}
-
-// Lends the record's place in the image on.
-fn put_at(image: &mut [u8], number: usize, object: u32, berth: u16, label: &[u8])
-    requires { ⌜ 96 * number + 96 ≤ length (now image) ⌝ }
-    requires { ⌜ length (now label) ≤ 88 ⌝ }
-    ensures { λ r. ⌜ now (image .exit) ≡ replaced (now (image .entry)) number (recordOf object berth (now (label .entry))) ⌝ }
-{
-    let at = 96 * number;
-    let end = at + 96;
-    put(&mut image[at..end], object, berth, label);
-}
 
 // Stores bytes as they are, where they are not too many.
 fn store_given(image: &mut [u8], number: usize, object: u32, berth: u16, label: &[u8]) -> Checked
@@ -65,7 +23,7 @@ fn store_given(image: &mut [u8], number: usize, object: u32, berth: u16, label: 
     if 88 < label.len() {
         return Checked::Refused(Refusal::BadLayout(8));
     }
-    put_at(image, number, object, berth, label);
+    labels_storing::put_at(image, number, object, berth, label);
     Checked::Passed
 }
 
@@ -81,7 +39,7 @@ fn store_joined(image: &mut [u8], number: usize, object: u32, berth: u16, label:
         Read::Refused(_) => Checked::Refused(Refusal::BadLayout(8)),
         Read::Done(counted) => {
             let size = counted.length;
-            put_at(image, number, object, berth, &joined[..size]);
+            labels_storing::put_at(image, number, object, berth, &joined[..size]);
             Checked::Passed
         }
     }
@@ -113,7 +71,7 @@ fn store(
     requires { ⌜ inOrder (overImage (now image) ∷ takesBytes (now label) ∷ noRecord (now image) number ∷ []) ≡ passes ⌝ }
     ensures { λ r. ⌜ Writes (now (image .entry)) number object berth form (now (label .entry)) r (now (image .exit)) ⌝ }
 {
-    if layout::first_ill(label) < label.len() {
+    if labels_ill::first_ill(label) < label.len() {
         return Checked::Refused(Refusal::BadLayout(8));
     }
     match form {

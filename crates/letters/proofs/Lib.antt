@@ -1,7 +1,6 @@
--- Crate letters, proofs/: the laws of the sorts, their counts, the one step, full parts, the Standard's terms, and that the readings are injective, lowest first.
--- Not here: the definitions (specs/), and the proofs of the functions, which stand in folders of their own.
+-- Crate letters, proofs/: the laws of the sorts, the one step, full parts, the Standard's terms, and that the readings are injective, lowest first.
+-- Not here: the sorts' counts (crate letters_counts), the definitions (specs/), and the proofs of the functions, which stand in folders of their own.
 pub mod Sorts
-pub mod Counts
 pub mod Steps
 pub mod Parts
 pub mod Chapter3

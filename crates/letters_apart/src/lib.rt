@@ -1,9 +1,8 @@
 // The full parts of a text: each one-step part taken apart again, until nothing changes (document 01, 'Syllables').
-// Not here: the definitions, and one step alone (crate letters).
+// Not here: the definitions (crate letters), and one step alone (crate letters_step).
 use answers::Checked;
 use answers::Filled;
 use answers::Refusal;
-use letters::step;
 use letters::step::Parts;
 ghost use mathlib.Core.Path.{_≡_};
 ghost use Prim.Native.Nat.{_≤_};
@@ -23,7 +22,7 @@ fn take_apart(code: u32, out: &mut [u32], at: usize, depth: u32) -> usize
         out[at] = code;
         return at + 1;
     }
-    let parts = step::parts_of(code);
+    let parts = letters_step::parts_of(code);
     match parts {
         Parts::One(only) => {
             out[at] = only;

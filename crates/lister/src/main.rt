@@ -22,7 +22,7 @@ fn write_answer(answer: Filled, listed: &[u8]) -> bool {
     match answer {
         Filled::Done(length) => write_front(listed, length),
         Filled::Refused(refusal) => {
-            let line = answers::refusal_line(refusal);
+            let line = answers_told::refusal_line(refusal);
             io::write_all(libc::STDOUT_FILENO, &line)
         }
     }

@@ -14,8 +14,9 @@ use Rattle.utf8.specs.Utf8.{bytesOf}
 use Rattle.utf8.proofs.Writing.{long-three, bytes-least}
 use Rattle.mending.proofs.Bound.{each-most}
 use Rattle.names.proofs.Lengths.{syllable-name-most}
-use Rattle.listing.specs.Listing.{hexOf, nameOrNone, lineOf, listed}
-use Rattle.listing.proofs.Hex.{hex-long, hex-most}
+use Rattle.listing_hex.specs.Hex.{hexOf}
+use Rattle.listing_hex.proofs.Hex.{hex-long, hex-most}
+use Rattle.listing.specs.Listing.{nameOrNone, lineOf, listed}
 use Rattle.listing.proofs.Writing.{name-yes, name-none}
 
 module _ (c : ℕ) where

@@ -1,7 +1,5 @@
--- Crate listing, proofs/: the laws of the list: a code in hex reads back as the code, the writing of a line, how long a list is at most; then of the
--- loops and of the call.
+-- Crate listing, proofs/: the laws of the list: the writing of a line, how long a list is at most; then of the loops and of the call.
 -- Not here: the definition (specs/), and the proofs of the functions, which stand in folders of their own.
-pub mod Hex
 pub mod Writing
 pub mod Bound
 pub mod Turns

@@ -1,12 +1,11 @@
--- Writing a character's line. In order: the last four digits fit (`four-fits`); a code in hex in pieces, the digits before the last four and these
--- (`four-piece`, `five-piece`, `six-piece`); the name or - (`name-yes`, `name-none`), as naming answers (`done-named`, `refused-named`), in the part of a
+-- Writing a character's line. In order: the name or - (`name-yes`, `name-none`), as naming answers (`done-named`, `refused-named`), in the part of a
 -- buffer from an index on (`put-front`, `name-fits`, `wrote-named`, `refused-index`, `wrote-unnamed`); the line, with room for each part where the whole
 -- has (`room-hex`, `room-space`, `room-name`, `room-feed`, `wrote-line`, `line-fits`).
--- Not here: the digits (proofs/Hex), how long a line is at most (proofs/Bound). Assumes nothing.
+-- Not here: the code in hex (crate listing_hex), how long a line is at most (proofs/Bound). Assumes nothing.
 use mathlib.Core.Path.{_≡_, refl, sym, _∙_, ap}
 use mathlib.Core.Bool.{true, false}
 use mathlib.Core.List.{List, [], _∷_, _++_, append-assoc}
-use Prim.Native.Nat.{ℕ, _+_, _-_, _/_, _%_, _≤_, _<_}
+use Prim.Native.Nat.{ℕ, _+_, _-_, _≤_, _<_}
 use native.Mathlib.Omega.{arith}
 use lib.ListN.{length, take, drop, set, take-append-drop}
 use lib.Seq.{sets, sets-eq, drop-drop, drop-append-le}
@@ -22,23 +21,8 @@ use Rattle.names.specs.Names.{nameOf}
 use Rattle.names.specs.Naming.{Names}
 use Rattle.names.proofs.Writing.{names-refused}
 use Rattle.names.proofs.Found.{names-unique, names-whole}
-use Rattle.listing.specs.Listing.{digitOf, lastFour, hexOf, nameOrNone, lineOf}
-use Rattle.listing.proofs.Hex.{four-long, hex-four, hex-five, hex-six}
-
--- ---- a code in hex: d, or d and e, are the digits before the last four, as the code finds them
-
-module _ (c : ℕ) where
-  pub four-fits : {out : List ℕ} {at : ℕ} → Room out at (lastFour c) → at + 4 ≤ length out
-  four-fits room = omega (arith, room .fits, four-long c)
-
-  pub four-piece : c < 0x10000 → Piece (hexOf c) [] (lastFour c)
-  four-piece h = record { eq = hex-four c h }
-
-  pub five-piece : 0x10000 ≤ c → c < 0x100000 → {d : ℕ} → d ≡ digitOf (c / 0x10000 % 16) → Piece (hexOf c) (d ∷ []) (lastFour c)
-  five-piece h k p = record { eq = rw p (hex-five c h k) }
-
-  pub six-piece : 0x100000 ≤ c → {d e : ℕ} → d ≡ digitOf (c / 0x100000 % 16) → e ≡ digitOf (c / 0x10000 % 16) → Piece (hexOf c) (d ∷ e ∷ []) (lastFour c)
-  six-piece h p q = record { eq = rw (p, q) (hex-six c h) }
+use Rattle.listing_hex.specs.Hex.{hexOf}
+use Rattle.listing.specs.Listing.{nameOrNone, lineOf}
 
 -- ---- the name or -
 

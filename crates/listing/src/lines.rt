@@ -1,54 +1,14 @@
 // Listing the characters of a text of bytes into a lent buffer (document 01, 'Programs').
-// Not here: what a character is (crate mending_character), its name (crate names_naming).
+// Not here: what a character is (crate mending_character), its code in hex (crate listing_hex), its name (crate names_naming).
 use answers::Checked;
 use answers::Filled;
 use answers::Refusal;
 ghost use mathlib.Core.Path.{_≡_};
-ghost use Prim.Native.Nat.{_≤_, _<_};
+ghost use Prim.Native.Nat.{_≤_};
 ghost use lib.ListN.{length};
 ghost use Rattle.laws.specs.Writing.{Room, Wrote, Fronts};
 ghost use Rattle.answers.specs.Checks.{lacking, passes, takesBytes};
-ghost use Rattle.listing.specs.Listing.{digitOf, lastFour, hexOf, nameOrNone, lineOf, listed, Lists};
-
-// A digit of hex as its character.
-fn digit(value: u32) -> u8
-    requires { ⌜ value < 16 ⌝ }
-    ensures { λ r. ⌜ r ≡ digitOf value ⌝ }
-{
-    if value < 10 {
-        return b'0' + value as u8;
-    }
-    b'A' + (value - 10) as u8
-}
-
-// Writes the last four digits of a code from `at` on, and answers the index behind them.
-fn put_four(code: u32, out: &mut [u8], at: usize) -> usize
-    requires { ⌜ Room (now out) at (lastFour code) ⌝ }
-    ensures { λ r. ⌜ Wrote (now (out .entry)) at (lastFour code) r (now (out .exit)) ⌝ }
-{
-    out[at] = digit(code / 0x1000 % 16);
-    out[at + 1] = digit(code / 0x100 % 16);
-    out[at + 2] = digit(code / 0x10 % 16);
-    out[at + 3] = digit(code % 16);
-    at + 4
-}
-
-// Writes a code in hex.
-fn put_hex(code: u32, out: &mut [u8], at: usize) -> usize
-    requires { ⌜ Room (now out) at (hexOf code) ⌝ }
-    ensures { λ r. ⌜ Wrote (now (out .entry)) at (hexOf code) r (now (out .exit)) ⌝ }
-{
-    if code < 0x10000 {
-        return put_four(code, out, at);
-    }
-    if code < 0x100000 {
-        out[at] = digit(code / 0x10000 % 16);
-        return put_four(code, out, at + 1);
-    }
-    out[at] = digit(code / 0x100000 % 16);
-    out[at + 1] = digit(code / 0x10000 % 16);
-    put_four(code, out, at + 2)
-}
+ghost use Rattle.listing.specs.Listing.{nameOrNone, lineOf, listed, Lists};
 
 // Writes the name of a syllable, and - for any other character.
 fn put_name(code: u32, out: &mut [u8], at: usize) -> usize
@@ -70,7 +30,7 @@ fn put_line(code: u32, out: &mut [u8], at: usize) -> usize
     requires { ⌜ Room (now out) at (lineOf code) ⌝ }
     ensures { λ r. ⌜ Wrote (now (out .entry)) at (lineOf code) r (now (out .exit)) ⌝ }
 {
-    let behind_code = put_hex(code, out, at);
+    let behind_code = listing_hex::put_hex(code, out, at);
     out[behind_code] = b' ';
     let behind_name = put_name(code, out, behind_code + 1);
     out[behind_name] = b'\n';

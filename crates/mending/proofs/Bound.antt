@@ -21,10 +21,11 @@ use Rattle.laws.specs.Damage.{codes}
 use Rattle.laws.proofs.Lists.{each-nil, each-cons}
 use Rattle.answers.specs.Checks.{bad}
 use Rattle.letters.proofs.Steps.{syllable-least, syllable-most}
-use Rattle.joining.specs.Joining.{pair, join}
+use Rattle.joining_role.specs.Roles.{pair}
+use Rattle.joining_role.proofs.Roles.{peak-range, final-range}
+use Rattle.joining_role.proofs.Pairs.{by-pair, pair-syllable, pair-good}
+use Rattle.joining.specs.Joining.{join}
 use Rattle.joining.specs.Grouping.{Grouped, none, alone, two, three}
-use Rattle.joining.proofs.Roles.{peak-range, final-range}
-use Rattle.joining.proofs.Pairs.{by-pair, pair-syllable, pair-good}
 use Rattle.joining.proofs.Joins.{neighbours}
 use Rattle.utf8.specs.Table37.{kindOf}
 use Rattle.utf8.specs.Utf8.{valueOf, bytesOf, utf8, readText}

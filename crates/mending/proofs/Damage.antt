@@ -22,8 +22,8 @@ use Rattle.laws.proofs.Places.{ending-place, beginning-place}
 use Rattle.laws.proofs.Damage.{keeps, around-ill}
 use Rattle.answers.proofs.Checks.{bytes-short}
 use Rattle.answers.proofs.Verdicts.{fills-done}
+use Rattle.joining_role.specs.Roles.{Hard}
 use Rattle.joining.specs.Joining.{join}
-use Rattle.joining.specs.Grouping.{Hard}
 use Rattle.joining.proofs.Joins.{join-one, join-cut, mark-around}
 use Rattle.utf8.specs.Table37.{kindOf}
 use Rattle.utf8.specs.Utf8.{bytesOf, utf8, illText, writeText}

@@ -1,5 +1,5 @@
 // How far the loops of mending have come, as the definitions speak of it (specs/Steps).
-// Not here: the loops (crate mending_text).
+// Not here: the loops (crates mending_text, mending_counting).
 // How far mending has come: bytes read, bytes written, and ill-formed subparts.
 pub struct At {
     pub read: usize,

@@ -1,14 +1,12 @@
 // The character that begins at an index of a text of bytes: a code point, with those behind it that
 // join to it. Not here: the quick way for whole syllables of letters (crate mending_spelled).
-use joining::role;
-use joining::role::Role;
-use utf8::read;
+use joining_role::Role;
 use utf8::read::Taken;
 ghost use mathlib.Core.Path.{_≡_};
 ghost use Prim.Native.Nat.{_+_, _≤_, _<_};
 ghost use lib.ListN.{length, drop};
 ghost use Rattle.laws.specs.Pieces.{pieces};
-ghost use Rattle.joining.specs.Joining.{roleOf};
+ghost use Rattle.joining_role.specs.Roles.{roleOf};
 ghost use Rattle.utf8.specs.Table37.{kindOf};
 ghost use Rattle.mending.specs.Characters.{grownOnce, characterFrom, goesOnAs};
 
@@ -16,7 +14,7 @@ ghost use Rattle.mending.specs.Characters.{grownOnce, characterFrom, goesOnAs};
 fn goes_on(code: u32) -> bool
     ensures { λ r. ⌜ r ≡ goesOnAs (roleOf code) ⌝ }
 {
-    let role = role::role_of(code);
+    let role = joining_role::role_of(code);
     match role {
         Role::Initial => true,
         Role::Peak => false,
@@ -32,8 +30,8 @@ fn grow(text: &[u8], at: usize, taken: Taken) -> Taken
     ensures { λ r. ⌜ r ≡ grownOnce taken (pieces kindOf (drop (at + taken .size) (now (text .entry)))) ⌝ }
 {
     let size = taken.size;
-    let next = read::read_at(text, at + size);
-    let code = role::joined(taken.code, next.code);
+    let next = utf8_at::read_at(text, at + size);
+    let code = joining_role::joined(taken.code, next.code);
     if code == 0 {
         return taken;
     }
@@ -48,7 +46,7 @@ fn grow(text: &[u8], at: usize, taken: Taken) -> Taken
 pub fn character_at(text: &[u8], at: usize) -> Taken
     ensures { λ r. ⌜ r ≡ characterFrom (pieces kindOf (drop at (now (text .entry)))) ⌝ }
 {
-    let first = read::read_at(text, at);
+    let first = utf8_at::read_at(text, at);
     if !goes_on(first.code) {
         return first;
     }

@@ -1,77 +1,9 @@
-// Bytes that pass: characters that stand in the mended text as they stand in the text, found in runs.
-// Each function may find less than there is, never more. Not here: what has to be made (crate mending_character).
+// Bytes that pass: characters that stand in the mended text as they stand in the text, found in runs, never more than there are.
+// Not here: what runs are made of (crates mending_ascii, mending_syllables), and what has to be made (crate mending_character).
 ghost use mathlib.Core.Path.{_≡_};
-ghost use mathlib.Core.Bool.{true};
-ghost use Prim.Native.Nat.{_≤_, _<_};
+ghost use Prim.Native.Nat.{_≤_};
 ghost use lib.ListN.{length, getD};
-ghost use Rattle.laws.specs.Ranges.{within};
-ghost use Rattle.mending.specs.Steps.{Passes, Three, Lead, Low, wordOf};
-
-fn wide(byte: u8) -> u64
-    ensures { λ r. ⌜ r ≡ byte ⌝ }
-{
-    byte as u64
-}
-
-// Eight bytes as one number, written so that it compiles to one load.
-fn word(a: u8, b: u8, c: u8, d: u8, e: u8, f: u8, g: u8, h: u8) -> u64
-    ensures { λ r. ⌜ r ≡ wordOf a b c d e f g h ⌝ }
-{
-    wide(a)
-        + wide(b) * 0x100
-        + wide(c) * 0x10000
-        + wide(d) * 0x1000000
-        + wide(e) * 0x100000000
-        + wide(f) * 0x10000000000
-        + wide(g) * 0x1000000000000
-        + wide(h) * 0x100000000000000
-}
-
-// Are all eight ASCII?
-fn are_low(a: u8, b: u8, c: u8, d: u8, e: u8, f: u8, g: u8, h: u8) -> bool
-    ensures { λ r. ⌜ (r ≡ true → Low a b c d e f g h) ⌝ }
-{
-    word(a, b, c, d, e, f, g, h) & 0x8080808080808080 == 0
-}
-
-// ASCII, eight bytes at once.
-fn eights(text: &[u8], from: usize) -> usize
-    requires { ⌜ from ≤ length (now text) ⌝ }
-    ensures { λ r. ⌜ Passes (now (text .entry)) from r ⌝ }
-{
-    let mut at = from;
-    while text.len() - at >= 8 {
-        if !are_low(
-            text[at],
-            text[at + 1],
-            text[at + 2],
-            text[at + 3],
-            text[at + 4],
-            text[at + 5],
-            text[at + 6],
-            text[at + 7],
-        ) {
-            return at;
-        }
-        at += 8;
-    }
-    at
-}
-
-// ASCII, byte by byte.
-fn ones(text: &[u8], from: usize) -> usize
-    requires { ⌜ from ≤ length (now text) ⌝ }
-    ensures { λ r. ⌜ Passes (now (text .entry)) from r ⌝ }
-{
-    let mut at = from;
-    while at < text.len() {
-        if text[at] >= 0x80 {
-            return at;
-        }
-        at += 1;
-    }
-    at
-}
+ghost use Rattle.mending.specs.Steps.{Passes};
 
 // The byte at an index, or 0 behind the end.
 pub fn byte(text: &[u8], at: usize) -> u8
@@ -83,109 +15,6 @@ pub fn byte(text: &[u8], at: usize) -> u8
     0
 }
 
-// A character from A000 to D7FF, and behind it no letter of the block 1100–11FF.
-pub fn is_three(a: u8, b: u8, c: u8, d: u8) -> bool
-    ensures { λ r. ⌜ (r ≡ true → Three a b c d) ⌝ }
-{
-    if a < 0xEA {
-        return false;
-    }
-    if a > 0xED {
-        return false;
-    }
-    if d == 0xE1 {
-        return false;
-    }
-    if b < 0x80 {
-        return false;
-    }
-    if b > 0xBF {
-        return false;
-    }
-    if c < 0x80 {
-        return false;
-    }
-    if c > 0xBF {
-        return false;
-    }
-    if a < 0xED {
-        return true;
-    }
-    b < 0xA0
-}
-
-// The first two bytes of a character from A000 to D7FF: as one number they lie between EA80 and ED9F.
-fn is_lead(a: u8, b: u8) -> bool
-    ensures { λ r. ⌜ (r ≡ true → Lead a b) ⌝ }
-{
-    let both = a as u32 * 0x100 + b as u32;
-    if both < 0xEA80 {
-        return false;
-    }
-    if both > 0xED9F {
-        return false;
-    }
-    is_continuation(b)
-}
-
-// Does a byte continue a sequence?
-pub fn is_continuation(byte: u8) -> bool
-    ensures { λ r. ⌜ r ≡ within 0x80 0xBF byte ⌝ }
-{
-    if byte < 0x80 {
-        return false;
-    }
-    byte <= 0xBF
-}
-
-// Syllables and what lies beside them, behind which nothing can join, as long as there are four bytes. Each byte is
-// read when those before it fit, so that the end of a run is found by its first byte.
-fn threes(text: &[u8], from: usize) -> usize
-    requires { ⌜ from ≤ length (now text) ⌝ }
-    ensures { λ r. ⌜ Passes (now (text .entry)) from r ⌝ }
-{
-    let mut at = from;
-    while text.len() - at >= 4 {
-        if !is_lead(text[at], text[at + 1]) {
-            return at;
-        }
-        if !is_continuation(text[at + 2]) {
-            return at;
-        }
-        if text[at + 3] == 0xE1 {
-            return at;
-        }
-        at += 3;
-    }
-    at
-}
-
-// The same for the last three bytes of a text.
-fn last_three(text: &[u8], at: usize) -> usize
-    requires { ⌜ at ≤ length (now text) ⌝ }
-    ensures { λ r. ⌜ Passes (now (text .entry)) at r ⌝ }
-{
-    if text.len() - at != 3 {
-        return at;
-    }
-    if !is_three(text[at], text[at + 1], text[at + 2], 0) {
-        return at;
-    }
-    at + 3
-}
-
-// ASCII, where the text goes on so.
-fn ascii(text: &[u8], from: usize) -> usize
-    requires { ⌜ from < length (now text) ⌝ }
-    ensures { λ r. ⌜ Passes (now (text .entry)) from r ⌝ }
-{
-    if text[from] >= 0x80 {
-        return from;
-    }
-    let low = eights(text, from);
-    ones(text, low)
-}
-
 // A run of ASCII, and behind it one of syllables.
 pub fn run(text: &[u8], from: usize) -> usize
     ensures { λ r. ⌜ (from ≤ length (now (text .entry)) → Passes (now (text .entry)) from r) ⌝ }
@@ -193,9 +22,8 @@ pub fn run(text: &[u8], from: usize) -> usize
     if text.len() <= from {
         return from;
     }
-    let low = ascii(text, from);
-    let end = threes(text, low);
-    last_three(text, end)
+    let low = mending_ascii::ascii(text, from);
+    mending_syllables::syllables(text, low)
 }
 
 // As far as runs follow each other: behind one that does not end before ASCII there is none.

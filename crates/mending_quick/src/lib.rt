@@ -27,13 +27,13 @@ fn finished_at(text: &[u8], at: usize) -> Taken
     ensures { λ r. ⌜ ((r .size ≡ 0 → ⊥) → r ≡ characterFrom (pieces kindOf (drop at (now (text .entry))))) ⌝ }
 {
     if text.len() - at < 3 {
-        return mending_spelled::none();
+        return mending_tail::none();
     }
     let first = text[at];
     let second = text[at + 1];
     let third = text[at + 2];
-    if !mending_passing::is_three(first, second, third, mending_passing::byte(text, at + 3)) {
-        return mending_spelled::none();
+    if !mending_syllables::is_three(first, second, third, mending_passing::byte(text, at + 3)) {
+        return mending_tail::none();
     }
     Taken {
         code: three_code(first, second, third),
@@ -47,7 +47,7 @@ fn shorter_at(text: &[u8], at: usize) -> Taken
     ensures { λ r. ⌜ ((r .size ≡ 0 → ⊥) → r ≡ characterFrom (pieces kindOf (drop at (now (text .entry))))) ⌝ }
 {
     if text.len() <= at {
-        return mending_spelled::none();
+        return mending_tail::none();
     }
     let byte = text[at];
     if byte < 0x80 {

@@ -1,9 +1,8 @@
 // Mending a text of bytes into a lent buffer, in one pass (document 01, 'Bytes').
-// Not here: the definitions (crate mending), what passes (mending_passing), what is made (mending_character, mending_spelled).
+// Not here: the definitions (crate mending), what passes, what is made and how long it all is (the other crates of the family).
 use answers::Checked;
 use answers::Refusal;
 use mending::progress::At;
-use mending::progress::Count;
 use utf8::read::Counted;
 use utf8::read::Read;
 use utf8::read::Taken;
@@ -13,7 +12,7 @@ ghost use lib.ListN.{length};
 ghost use Rattle.answers.specs.Checks.{lacking, passes, takesBytes};
 ghost use Rattle.utf8.specs.Reading.{ReadFronts, Reads};
 ghost use Rattle.mending.specs.Mending.{mended};
-ghost use Rattle.mending.specs.Steps.{Copies, Triple, Ready, Moved, Fits, Placed, CountReady, CountMoved, CountFits, CountPlaced};
+ghost use Rattle.mending.specs.Steps.{Copies, Triple, Ready, Moved, Fits, Placed};
 
 // Copies the bytes between two indices, and answers the index behind them in `out`.
 fn copy(text: &[u8], from: usize, to: usize, out: &mut [u8], at: usize) -> usize
@@ -37,7 +36,7 @@ fn place(out: &mut [u8], s: At, taken: Taken) -> At
     requires { ⌜ Fits (now out) s taken ⌝ }
     ensures { λ r. ⌜ Placed (now (out .entry)) s taken r (now (out .exit)) ⌝ }
 {
-    let written = utf8_write::put_at(taken.code, out, s.written);
+    let written = utf8_put::put_at(taken.code, out, s.written);
     At {
         read: s.read + taken.size,
         written,
@@ -68,11 +67,11 @@ fn make(text: &[u8], out: &mut [u8], s: At) -> At
     requires { ⌜ Ready (now text) (now out) s ⌝ }
     ensures { λ r. ⌜ Moved (now (text .entry)) (now (out .entry)) s r (now (out .exit)) ⌝ }
 {
-    let ill = mending_spelled::alone::ill_at(text, s.read);
+    let ill = mending_ill::ill_at(text, s.read);
     if ill.size != 0 {
         return set(out, s, ill);
     }
-    let letter = mending_spelled::alone::letter_at(text, s.read);
+    let letter = mending_letter::letter_at(text, s.read);
     if letter.size != 0 {
         return set(out, s, letter);
     }
@@ -130,58 +129,6 @@ fn mend_into(text: &[u8], out: &mut [u8]) -> Counted
     }
 }
 
-// Counts a character.
-fn count_place(s: Count, taken: Taken) -> Count
-    requires { ⌜ CountFits s taken ⌝ }
-    ensures { λ r. ⌜ CountPlaced s taken r ⌝ }
-{
-    Count {
-        read: s.read + taken.size,
-        length: s.length + utf8_write::size_of(taken.code),
-    }
-}
-
-// Counts what passes, or else one character.
-fn count_pass(text: &[u8], s: Count) -> Count
-    requires { ⌜ CountReady (now text) s ⌝ }
-    ensures { λ r. ⌜ CountMoved (now (text .entry)) s r ⌝ }
-{
-    let read = s.read;
-    let end = mending_passing::run(text, read);
-    if end == read {
-        let taken = mending_character::character_at(text, read);
-        return count_place(s, taken);
-    }
-    Count {
-        read: end,
-        length: s.length + (end - read),
-    }
-}
-
-// Counts a syllable of letters, or else what comes.
-fn count_advance(text: &[u8], s: Count) -> Count
-    requires { ⌜ CountReady (now text) s ⌝ }
-    ensures { λ r. ⌜ CountMoved (now (text .entry)) s r ⌝ }
-{
-    let spelled = mending_spelled::spelled_at(text, s.read);
-    if spelled.size == 0 {
-        return count_pass(text, s);
-    }
-    count_place(s, spelled)
-}
-
-// How long the mended text is.
-fn mended_count(text: &[u8]) -> usize
-    requires { ⌜ length (now text) ≤ 16384 ⌝ }
-    ensures { λ r. ⌜ r ≡ length (mended (now (text .entry))) ⌝ }
-{
-    let mut s = Count { read: 0, length: 0 };
-    while s.read < text.len() {
-        s = count_advance(text, s);
-    }
-    s.length
-}
-
 // The length needed where `room` does not do, else 0. Three for each byte always do, and then
 // nothing is counted.
 fn mend_lacking(text: &[u8], room: usize) -> usize
@@ -191,7 +138,7 @@ fn mend_lacking(text: &[u8], room: usize) -> usize
     if 3 * text.len() <= room {
         return 0;
     }
-    let needed = mended_count(text);
+    let needed = mending_counting::mended_count(text);
     if room < needed {
         return needed;
     }

@@ -1,5 +1,5 @@
 -- What the search of a name compares, and what it has passed over. In order: a string by value, and that it is as long as the table's
--- (`spells-size`); how a name goes on with it from an index on, letter by letter; a vowel letter at an index, and whether a string fits there (`fits-not`,
+-- (`spells-size`); how what is left of a name goes on with it, letter by letter; a vowel letter at an index, and whether a string fits (`fits-not`,
 -- `fits-as`); how a name begins with the prefix, letter by letter (`PrefixTo`); EVERY PEAK BEGINS WITH A VOWEL LETTER AND NO FINAL DOES (`peak-first`,
 -- `final-first`), so that no name is lost where the letter behind a string does not fit; a name's three strings at their indices, not there (`prefix-miss`
 -- to `final-miss`) and there (`name-there`); what a search of a table's rows keeps (`Tried`), and what the three searches do (`Initials`, `Peaks`,
@@ -13,7 +13,7 @@ use Prim.Native.Nat.{ℕ, suc, _+_, _-_, _≤_, _<_}
 use native.Mathlib.Omega.{arith}
 use lib.Dec.{eqb}
 use lib.ListN.{length, getD, take, drop, length-drop, drop-of-length-le}
-use lib.Seq.{drop-drop, drop-cons, drop-append-seam}
+use lib.Seq.{take-all, drop-drop, drop-cons, drop-append-seam}
 use borrow.Author.Tests.{eqb-true, eqb-false, ne-eqb}
 use borrow.Author.Count.{below-more}
 use Rattle.laws.specs.Lists.{All, also}
@@ -43,62 +43,59 @@ module _ (part : Part) where
       let e : part .length ≡ suc (suc (part .length - 2)) = omega arith in
       ap (λ (n : ℕ). take n (part .first ∷ part .second ∷ part .third ∷ [])) e
 
--- ---- how a name goes on with a string from an index on
+-- ---- how what is left of a name goes on with a string
 
-module _ (part : Part) (few : part .length ≤ 3) (name : List ℕ) (at : ℕ) where
-  pub goes-short : length name - at < part .length → false ≡ begins (stringOf part) (drop at name)
-  goes-short h = sym (begins-short (stringOf part) (drop at name) (omega (arith, string-size part few, length-drop at name)))
+module _ (part : Part) (few : part .length ≤ 3) (rest : List ℕ) where
+  pub goes-short : length rest < part .length → false ≡ begins (stringOf part) rest
+  goes-short h = sym (begins-short (stringOf part) rest (omega (arith, string-size part few)))
 
-  pub goes-0 : part .length ≡ 0 → true ≡ begins (stringOf part) (drop at name)
+  pub goes-0 : part .length ≡ 0 → true ≡ begins (stringOf part) rest
   goes-0 e = rw e
 
-  module _ (inside : at ≤ length name) (long : part .length ≤ length name - at) (some : part .length ≡ 0 → ⊥) where
-    pub goes-not-first : (getD name at 0 ≡ part .first → ⊥) → false ≡ begins (stringOf part) (drop at name)
+  module _ (long : part .length ≤ length rest) (some : part .length ≡ 0 → ⊥) where
+    pub goes-not-first : (getD rest 0 0 ≡ part .first → ⊥) → false ≡ begins (stringOf part) rest
     goes-not-first h =
         rw (spelled-some part some)
-        (sym (begins-not-here (part .first) (take (part .length - 1) (part .second ∷ part .third ∷ [])) name at (omega arith) h))
+        (sym (begins-not-here (part .first) (take (part .length - 1) (part .second ∷ part .third ∷ [])) rest 0 (omega arith) h))
 
-    module _ (first : getD name at 0 ≡ part .first) where
-      pub goes-1 : part .length ≡ 1 → true ≡ begins (stringOf part) (drop at name)
-      goes-1 e = rw e (sym (begins-here (part .first) [] name at (omega arith) first))
+    module _ (first : getD rest 0 0 ≡ part .first) where
+      pub goes-1 : part .length ≡ 1 → true ≡ begins (stringOf part) rest
+      goes-1 e = rw e (sym (begins-here (part .first) [] rest 0 (omega arith) first))
 
       module _ (more : part .length ≡ 1 → ⊥) where
-        behind-first : begins (stringOf part) (drop at name)
-            ≡ begins (part .second ∷ take (part .length - 2) (part .third ∷ [])) (drop (at + 1) name)
+        behind-first : begins (stringOf part) rest ≡ begins (part .second ∷ take (part .length - 2) (part .third ∷ [])) (drop 1 rest)
         behind-first =
             rw (spelled-more part some more)
-            (begins-here (part .first) (part .second ∷ take (part .length - 2) (part .third ∷ [])) name at (omega arith) first)
+            (begins-here (part .first) (part .second ∷ take (part .length - 2) (part .third ∷ [])) rest 0 (omega arith) first)
 
-        pub goes-not-second : (getD name (at + 1) 0 ≡ part .second → ⊥) → false ≡ begins (stringOf part) (drop at name)
+        pub goes-not-second : (getD rest 1 0 ≡ part .second → ⊥) → false ≡ begins (stringOf part) rest
         goes-not-second h =
-            sym (behind-first ∙ begins-not-here (part .second) (take (part .length - 2) (part .third ∷ [])) name (at + 1) (omega arith) h)
+            sym (behind-first ∙ begins-not-here (part .second) (take (part .length - 2) (part .third ∷ [])) rest 1 (omega arith) h)
 
-        module _ (second : getD name (at + 1) 0 ≡ part .second) where
-          behind-second : begins (stringOf part) (drop at name) ≡ begins (take (part .length - 2) (part .third ∷ [])) (drop (at + 1 + 1) name)
+        module _ (second : getD rest 1 0 ≡ part .second) where
+          behind-second : begins (stringOf part) rest ≡ begins (take (part .length - 2) (part .third ∷ [])) (drop 2 rest)
           behind-second =
-              behind-first ∙ begins-here (part .second) (take (part .length - 2) (part .third ∷ [])) name (at + 1) (omega arith) second
+              behind-first ∙ begins-here (part .second) (take (part .length - 2) (part .third ∷ [])) rest 1 (omega arith) second
 
-          pub goes-2 : part .length ≡ 2 → true ≡ begins (stringOf part) (drop at name)
+          pub goes-2 : part .length ≡ 2 → true ≡ begins (stringOf part) rest
           goes-2 e = sym (behind-second ∙ rw e)
 
-          pub goes-3 : (part .length ≡ 2 → ⊥) → eqb (getD name (at + 2) 0) (part .third) ≡ begins (stringOf part) (drop at name)
+          pub goes-3 : (part .length ≡ 2 → ⊥) → eqb (getD rest 2 0) (part .third) ≡ begins (stringOf part) rest
           goes-3 n =
               let e : part .length ≡ 3 = omega arith in
-              let two : at + 1 + 1 ≡ at + 2 = omega arith in
-              sym (behind-second ∙ rw (e, two) (third-letter (at + 2) (omega arith)))
+              sym (behind-second ∙ rw e (third-letter (omega arith)))
             where
-              third-letter : (k : ℕ) → k < length name → begins (part .third ∷ []) (drop k name) ≡ eqb (getD name k 0) (part .third)
-              third-letter k h =
-                  test (eqb (getD name k 0) (part .third)) (λ e. begins-here (part .third) [] name k h (eqb-true _ _ e) ∙ sym e)
-                  (λ e. begins-not-here (part .third) [] name k h (eqb-false _ _ e) ∙ sym e)
+              third-letter : 2 < length rest → begins (part .third ∷ []) (drop 2 rest) ≡ eqb (getD rest 2 0) (part .third)
+              third-letter h =
+                  test (eqb (getD rest 2 0) (part .third)) (λ e. begins-here (part .third) [] rest 2 h (eqb-true _ _ e) ∙ sym e)
+                  (λ e. begins-not-here (part .third) [] rest 2 h (eqb-false _ _ e) ∙ sym e)
 
   -- and how it ends with it
-  pub ends-other : (length name - at ≡ part .length → ⊥) → false ≡ same (stringOf part) (drop at name)
-  ends-other h = sym (same-other-length (stringOf part) (drop at name) (λ e. h (sym (length-drop at name) ∙ sym e ∙ string-size part few)))
+  pub ends-other : (length rest ≡ part .length → ⊥) → false ≡ same (stringOf part) rest
+  ends-other h = sym (same-other-length (stringOf part) rest (λ e. h (sym e ∙ string-size part few)))
 
-  pub ends-as : length name - at ≡ part .length → {told : Bool} → told ≡ begins (stringOf part) (drop at name)
-      → told ≡ same (stringOf part) (drop at name)
-  ends-as h e = e ∙ sym (same-begins (stringOf part) (drop at name) (string-size part few ∙ sym h ∙ sym (length-drop at name)))
+  pub ends-as : length rest ≡ part .length → {told : Bool} → told ≡ begins (stringOf part) rest → told ≡ same (stringOf part) rest
+  ends-as h e = e ∙ sym (same-begins (stringOf part) rest (string-size part few ∙ sym h))
 
 -- ---- a vowel letter, at an index, and behind a string
 
@@ -134,13 +131,13 @@ module _ (name : List ℕ) (at : ℕ) where
   pub vowel-here : at < length name → {told : Bool} → told ≡ vowel (getD name at 0) → told ≡ vowelFirst (drop at name)
   vowel-here h e = rw (drop-cons name at 0 h) e
 
-module _ (part : Part) (wanted : Bool) (name : List ℕ) (at : ℕ) {goes : Bool} (told : goes ≡ begins (stringOf part) (drop at name)) where
-  pub fits-not : goes ≡ false → false ≡ fitting (stringOf part) wanted (drop at name)
+module _ (part : Part) (wanted : Bool) (rest : List ℕ) {goes : Bool} (told : goes ≡ begins (stringOf part) rest) where
+  pub fits-not : goes ≡ false → false ≡ fitting (stringOf part) wanted rest
   fits-not h = rw (sym told ∙ h)
 
-  pub fits-as : part .length ≤ 3 → goes ≡ true → {vowel-told : Bool} → vowel-told ≡ vowelFirst (drop (at + part .length) name)
-      → Bool·beq vowel-told wanted ≡ fitting (stringOf part) wanted (drop at name)
-  fits-as few h e = rw (sym told ∙ h, drop-drop (length (stringOf part)) at name, string-size part few, e)
+  pub fits-as : part .length ≤ 3 → goes ≡ true → {vowel-told : Bool} → vowel-told ≡ vowelFirst (drop (part .length) rest)
+      → Bool·beq vowel-told wanted ≡ fitting (stringOf part) wanted rest
+  fits-as few h e = rw (sym told ∙ h, string-size part few, e)
 
 -- ---- how a name begins with the prefix, letter by letter
 
@@ -318,33 +315,41 @@ peak-behind : {first second : Part} (i p : ℕ) → Spells first (getD initials 
     → 16 + first .length + second .length ≡ behindPeak i p
 peak-behind i p initial peak = omega (arith, initial-behind i initial, spells-size peak)
 
+-- what is left of a name from an index on, as the code lends it
+abbrev lent : ℕ → List ℕ → List ℕ
+lent at name = take (length name - at) (drop at name)
+
+lent-is : (at : ℕ) (name : List ℕ) → lent at name ≡ drop at name
+lent-is at name = take-all (length name - at) (drop at name) (omega (arith, length-drop at name))
+
 module _ {name : List ℕ} where
   -- each begins: `told` is what the code's test of what stands before said
   pub initials-none : {told : Bool} {i : ℕ} → told ≡ begins prefix name → i ≡ cond told 0 19 → Initials name i
   initials-none e q = record { tried = tried-none (λ h j k p l f m. prefix-miss name j p f h) e q }
 
   pub peaks-none : {i : ℕ} {first : Part} → Spells first (getD initials i []) → {told : Bool} {p : ℕ}
-      → told ≡ fitting (stringOf first) true (drop 16 name) → p ≡ cond told 0 21 → Peaks name i first p
+      → told ≡ fitting (stringOf first) true (lent 16 name) → p ≡ cond told 0 21 → Peaks name i first p
   peaks-none {i} initial e q = record {
     initial = initial;
-    tried = tried-none (λ h j k f l. initial-miss name i j f h k) (e ∙ ap (λ (x : List ℕ). fitting x true (drop 16 name)) (initial .is)) q;
+    tried = tried-none (λ h j k f l. initial-miss name i j f h k) (e ∙ rw (initial .is, lent-is 16 name)) q;
   }
 
   pub finals-none : {i p : ℕ} {first second : Part} → Peaks name i first p → Spells second (getD peaks p []) → {told : Bool} {f : ℕ}
-      → told ≡ fitting (stringOf second) false (drop (16 + first .length) name) → f ≡ cond told 0 28 → Finals name i first p second f
-  finals-none {i} {p} middle peak e q = record {
+      → told ≡ fitting (stringOf second) false (lent (16 + first .length) name) → f ≡ cond told 0 28 → Finals name i first p second f
+  finals-none {i} {p} {first} middle peak e q = record {
     initial = middle .initial;
     peak = peak;
-    tried = tried-none (λ h j k. peak-miss name i p j h k) (e ∙ rw (peak .is, initial-behind i (middle .initial))) q;
+    tried = tried-none (λ h j k. peak-miss name i p j h k) (e ∙ rw (peak .is, lent-is (16 + first .length) name, initial-behind i (middle .initial))) q;
   }
 
   -- the code's test of the final
   final-told : {i p f : ℕ} {first second last : Part} → Finals name i first p second f → Spells last (getD finals f []) → {told : Bool}
-      → told ≡ same (stringOf last) (drop (16 + first .length + second .length) name) → told ≡ same (getD finals f []) (drop (behindPeak i p) name)
-  final-told {i} {p} inner final e = e ∙ rw (final .is, peak-behind i p (inner .initial) (inner .peak))
+      → told ≡ same (stringOf last) (lent (16 + first .length + second .length) name) → told ≡ same (getD finals f []) (drop (behindPeak i p) name)
+  final-told {i} {p} {f} {first} {second} inner final e =
+      e ∙ rw (final .is, lent-is (16 + first .length + second .length) name, peak-behind i p (inner .initial) (inner .peak))
 
   pub finals-more : {i p f : ℕ} {first second last : Part} → Finals name i first p second f → f < 28 → Spells last (getD finals f []) → {told : Bool}
-      → told ≡ same (stringOf last) (drop (16 + first .length + second .length) name) → told ≡ false → Finals name i first p second (f + 1)
+      → told ≡ same (stringOf last) (lent (16 + first .length + second .length) name) → told ≡ false → Finals name i first p second (f + 1)
   finals-more {i} {p} {f} inner h final ends e = record {
     initial = inner .initial;
     peak = inner .peak;
@@ -387,7 +392,7 @@ module _ {name : List ℕ} where
             omega (arith, initial-long, least, length-drop (behindInitial i) name, initial-behind i (inner .initial), behind)
 
         pub finals-found : {last : Part} → Spells last (getD finals f []) → {told : Bool}
-            → told ≡ same (stringOf last) (drop (16 + first .length + second .length) name) → told ≡ true
+            → told ≡ same (stringOf last) (lent (16 + first .length + second .length) name) → told ≡ true
             → (i < 19) × (p < 21) × (f < 28) × (name ≡ nameBy i p f)
         finals-found final ends e =
             let there = sym (final-told inner final ends) ∙ e in

@@ -1,5 +1,5 @@
 // A syllable by its three indices, what the search of a name finds, and the answer of reading a name (document 01, 'Names').
-// Not here: any function (crates names_naming and names_reading).
+// Not here: any function (crates names_indices, names_naming and names_reading).
 use answers::Refusal;
 
 // I, P and F.

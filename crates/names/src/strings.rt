@@ -1,5 +1,5 @@
 // The strings of names: three constant tables, and one row of such a table (document 01, 'Names').
-// Not here: what is done with a string (crates names_naming and names_reading).
+// Not here: what is done with a string (crates names_indices and names_fitting).
 ghost use mathlib.Core.Path.{_≡_};
 ghost use lib.ListN.{length};
 ghost use Rattle.names.specs.Names.{initials, peaks, finals};

@@ -20,7 +20,7 @@ pub struct Answer {
 fn refused(refusal: Refusal) -> Answer
     ensures { λ r. ⌜ r ≡ refusedAnswer refusal ⌝ }
 {
-    let told = answers::tell(refusal);
+    let told = answers_told::tell(refusal);
     Answer {
         refusal: told.number,
         count: 0,

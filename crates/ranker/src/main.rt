@@ -18,7 +18,7 @@ fn write_front(bytes: &[u8], size: usize) -> bool {
 }
 
 fn write_refusal(refusal: Refusal) -> bool {
-    let line = answers::refusal_line(refusal);
+    let line = answers_told::refusal_line(refusal);
     io::write_all(libc::STDOUT_FILENO, &line)
 }
 

@@ -1,8 +1,9 @@
--- Crate ranking, proofs/: the laws of orders, of items, of the rank, of the steps, of texts, and of the calls.
+-- Crate ranking, proofs/: the laws of orders, of items, of the rank, of the steps, of what an arm for several fronts tells, of texts, and of the calls.
 -- Not here: the definitions (specs/), and the proofs of the functions, which stand in folders of their own.
 pub mod Orders
 pub mod Items
 pub mod Ranks
 pub mod Steps
+pub mod Fronts
 pub mod Texts
 pub mod Calls

@@ -311,12 +311,6 @@ module _ (o : Order) where
   pub number-shorter : (a : Front) (b : ℕ) → Closed a → Steps (Number o) a (Digit b) (doneWith Before)
   number-shorter a b s = steps-done Before (λ x y v w. closed-digit-rank o v w s)
 
-pub closed-end : {a : Front} → a ≡ End → Closed a
-closed-end e = rw e tt
-
-pub closed-other : {a : Front} {c : ℕ} → a ≡ Other c → Closed a
-closed-other e = rw e tt
-
 -- ---- step
 
 pub done-stays : (o : Order) (a b : Front) {r : Move} → r ≡ doneWith o → Steps (Done o) a b r

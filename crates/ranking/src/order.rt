@@ -1,5 +1,5 @@
 // Where one label stands to another, and how two comparisons are one.
-// Not here: the labels (crates ranking_text, ranking_bytes), what is compared (crate ranking_step).
+// Not here: the labels (crates ranking_text, ranking_bytes), what is compared (crates ranking_apart, ranking_step).
 use answers::Refusal;
 ghost use mathlib.Core.Path.{_≡_};
 ghost use Rattle.ranking.specs.Ranking.{byValue, thenBy, orderNumber};

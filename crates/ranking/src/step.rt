@@ -1,5 +1,5 @@
 // What ranking carries from character to character, by value.
-// Not here: the functions over it (crates ranking_step, ranking_walk).
+// Not here: the functions over it (crates ranking_apart, ranking_step, ranking_walk).
 use crate::order::Order;
 
 // What stands in front of what is left of a label: nothing, a digit by its value, or another code

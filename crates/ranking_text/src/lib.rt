@@ -2,7 +2,6 @@
 // Not here: what is compared (crates ranking_step, ranking_walk), texts of bytes (crate ranking_bytes).
 use answers::Checked;
 use answers::Refusal;
-use joining::role;
 use ranking::order::Order;
 use ranking::order::Ranked;
 use ranking::step::At;
@@ -35,11 +34,11 @@ fn next_at(text: &[u32], at: usize) -> Next
         return ranking_walk::next_of(0, 0);
     }
     let first = text[at];
-    let two = role::joined(first, code(text, at + 1));
+    let two = joining_role::joined(first, code(text, at + 1));
     if two == 0 {
         return ranking_walk::next_of(first, 1);
     }
-    let three = role::joined(two, code(text, at + 2));
+    let three = joining_role::joined(two, code(text, at + 2));
     if three == 0 {
         return ranking_walk::next_of(two, 2);
     }

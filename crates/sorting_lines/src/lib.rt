@@ -1,84 +1,16 @@
 // Crate sorting_lines: the lines that the ranker prints: an image's record numbers in their order, one a line.
-// Not here: the order (crate sorting_order), reading and writing of files (the program).
+// Not here: the order (crate sorting_order), one line (crate sorting_line), reading and writing of files (the program).
 use answers::Refusal;
 use labels::image::Judged;
 ghost use mathlib.Core.Path.{_≡_};
 ghost use Prim.Native.Nat.{_≤_, _<_};
 ghost use lib.ListN.{length, take};
 ghost use Rattle.laws.specs.Lists.{All, each};
-ghost use Rattle.laws.specs.Writing.{Room, Wrote, Fronts};
-ghost use Rattle.sorting.specs.Printing.{digitOf, lineOf, Prints};
+ghost use Rattle.laws.specs.Writing.{Fronts};
+ghost use Rattle.sorting.specs.Printing.{lineOf, Prints};
 
 // The most records of an image.
 const MOST: usize = 682;
-
-// A digit of ASCII: the last one of a number.
-fn digit(number: u32) -> u8
-    ensures { λ r. ⌜ r ≡ digitOf number ⌝ }
-{
-    (0x30 + number % 10) as u8
-}
-
-// How long a number's line is.
-fn line_size(number: u32) -> usize
-    ensures { λ r. ⌜ (number < 1000 → r ≡ length (lineOf number)) ⌝ }
-{
-    match number {
-        0..=9 => 2,
-        10..=99 => 3,
-        _ => 4,
-    }
-}
-
-fn put_one(number: u32, out: &mut [u8], at: usize) -> usize
-    requires { ⌜ number < 10 ⌝ }
-    requires { ⌜ Room (now out) at (lineOf number) ⌝ }
-    ensures { λ r. ⌜ Wrote (now (out .entry)) at (lineOf number) r (now (out .exit)) ⌝ }
-{
-    out[at] = digit(number);
-    out[at + 1] = 0x0A;
-    at + 2
-}
-
-fn put_two(number: u32, out: &mut [u8], at: usize) -> usize
-    requires { ⌜ 10 ≤ number ⌝ }
-    requires { ⌜ number < 100 ⌝ }
-    requires { ⌜ Room (now out) at (lineOf number) ⌝ }
-    ensures { λ r. ⌜ Wrote (now (out .entry)) at (lineOf number) r (now (out .exit)) ⌝ }
-{
-    out[at] = digit(number / 10);
-    out[at + 1] = digit(number);
-    out[at + 2] = 0x0A;
-    at + 3
-}
-
-fn put_three(number: u32, out: &mut [u8], at: usize) -> usize
-    requires { ⌜ 100 ≤ number ⌝ }
-    requires { ⌜ number < 1000 ⌝ }
-    requires { ⌜ Room (now out) at (lineOf number) ⌝ }
-    ensures { λ r. ⌜ Wrote (now (out .entry)) at (lineOf number) r (now (out .exit)) ⌝ }
-{
-    out[at] = digit(number / 100);
-    out[at + 1] = digit(number / 10);
-    out[at + 2] = digit(number);
-    out[at + 3] = 0x0A;
-    at + 4
-}
-
-// Writes a number's line from `at` on, and answers the index behind it.
-fn put(number: u32, out: &mut [u8], at: usize) -> usize
-    requires { ⌜ number < 1000 ⌝ }
-    requires { ⌜ Room (now out) at (lineOf number) ⌝ }
-    ensures { λ r. ⌜ Wrote (now (out .entry)) at (lineOf number) r (now (out .exit)) ⌝ }
-{
-    if number < 10 {
-        return put_one(number, out, at);
-    }
-    if number < 100 {
-        return put_two(number, out, at);
-    }
-    put_three(number, out, at)
-}
 
 // How long the lines of the first `count` numbers are.
 fn lines_count(numbers: &[u32], count: usize) -> usize
@@ -90,7 +22,7 @@ fn lines_count(numbers: &[u32], count: usize) -> usize
     let mut size: usize = 0;
     let mut read = 0;
     while read < count {
-        size += line_size(numbers[read]);
+        size += sorting_line::line_size(numbers[read]);
         read += 1;
     }
     size
@@ -106,7 +38,7 @@ fn put_lines(numbers: &[u32], count: usize, out: &mut [u8]) -> usize
     let mut at: usize = 0;
     let mut read = 0;
     while read < count {
-        at = put(numbers[read], out, at);
+        at = sorting_line::put(numbers[read], out, at);
         read += 1;
     }
     at

@@ -1,59 +1,16 @@
 // Crate sorting_order: the order of an image's records, into a lent buffer: each record is put in its place among those
-// before it, which is found by halves. Not here: how the order is printed (crate sorting_lines).
+// before it, which is found by halves. Not here: where two records stand to each other (crate sorting_standing), how the order is printed (crate sorting_lines).
 use answers::Refusal;
 use labels::image::Judged;
-use ranking::order;
-use ranking::order::Order;
-use ranking::order::Ranked;
 use sorting::span::Span;
 ghost use mathlib.Core.Path.{_≡_};
 ghost use Prim.Native.Nat.{_≤_, _<_};
 ghost use lib.ListN.{length};
 ghost use Rattle.laws.specs.Writing.{front};
 ghost use Rattle.answers.specs.Checks.{passes};
-ghost use Rattle.ranking.specs.Ranking.{rankBytes};
-ghost use Rattle.labels.specs.Images.{labelAt, takesImage, countOf};
-ghost use Rattle.sorting.specs.Sorting.{standing, isBefore, orderOf, Orders};
+ghost use Rattle.labels.specs.Images.{takesImage, countOf};
+ghost use Rattle.sorting.specs.Sorting.{orderOf, Orders};
 ghost use Rattle.sorting.specs.Steps.{Between, Searchable, Halved, Placed, Inserted};
-
-// Two records by their labels.
-fn by_label(image: &[u8], first: usize, second: usize) -> Order
-    ensures { λ r. ⌜ r ≡ rankBytes (labelAt (now (image .entry)) first) (labelAt (now (image .entry)) second) ⌝ }
-{
-    let ranked = ranking_bytes::rank(
-        labels_record::label_at(image, first),
-        labels_record::label_at(image, second),
-    );
-    match ranked {
-        Ranked::Stands(order) => order,
-        // No label is over the limit.
-        Ranked::Refused(_) => Order::Equal,
-    }
-}
-
-// And then by berth and by number.
-fn compared(image: &[u8], first: u32, second: u32) -> Order
-    ensures { λ r. ⌜ r ≡ standing (now (image .entry)) first second ⌝ }
-{
-    let label = by_label(image, first as usize, second as usize);
-    let berth = order::compared(
-        labels_record::berth_at(image, first as usize) as u32,
-        labels_record::berth_at(image, second as usize) as u32,
-    );
-    let number = order::compared(first, second);
-    order::followed(label, order::followed(berth, number))
-}
-
-fn comes_before(image: &[u8], first: u32, second: u32) -> bool
-    ensures { λ r. ⌜ r ≡ isBefore (standing (now (image .entry)) first second) ⌝ }
-{
-    let order = compared(image, first, second);
-    match order {
-        Order::Before => true,
-        Order::Equal => false,
-        Order::After => false,
-    }
-}
 
 // One of the two halves.
 fn halved(image: &[u8], numbers: &[u32], count: usize, number: u32, span: Span) -> Span
@@ -65,7 +22,7 @@ fn halved(image: &[u8], numbers: &[u32], count: usize, number: u32, span: Span) 
     let low = span.low;
     let high = span.high;
     let middle = low + (high - low) / 2;
-    if comes_before(image, numbers[middle], number) {
+    if sorting_standing::comes_before(image, numbers[middle], number) {
         return Span {
             low: middle + 1,
             high,

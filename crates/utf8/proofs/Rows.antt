@@ -1,4 +1,4 @@
--- Laws of table 3-7. In order: the row of a first byte by its range (`row-between`, `row-over`, `row-none`); every range of a row is that of
+-- Laws of table 3-7. In order: the row of a first byte by its range (`row-between`, `row-over`); every range of a row is that of
 -- continuation bytes or a part of it, and has a byte (`row-inner`), so that 0 lies in none (`inner-least`); THE KIND OF A SEQUENCE IS COHERENT
 -- (`coherent8`); a byte that is no continuation byte begins a piece (`outside`, `leads8`); what is a proper beginning really goes on to a well-formed sequence
 -- (`completes`).
@@ -6,7 +6,7 @@
 -- Assumes nothing.
 use mathlib.Core.Path.{_≡_, refl, sym}
 use mathlib.Core.Bool.{Bool, true, false, cond, not, _&&_}
-use mathlib.Core.Logic.{_⊎_, inl, inr, ⊎-elim}
+use mathlib.Core.Logic.{⊎-elim}
 use mathlib.Core.Option.{Option, none, some}
 use mathlib.Core.List.{List, [], _∷_, _++_}
 use Prim.Native.Nat.{ℕ, _≤_, _<_}
@@ -43,11 +43,6 @@ row-over {a} h = simp (
   within-above 0xF1 0xF3 a (omega arith),
   within-above 0xF4 0xF4 a h,
 )
-
--- in a gap between the ranges, or over the last: A and B are what the code knows at each
-pub row-none : {A B : Type 0} {a : ℕ} → A ⊎ B → 0x80 ≤ a → (A → a < 0xC2) → (B → 0xF4 < a) → rowOf a ≡ none
-row-none (inl x) h p q = row-between 0x80 0xC1 tt h (omega (arith, p x))
-row-none (inr y) h p q = row-over (q y)
 
 -- ---- the ranges of a row
 

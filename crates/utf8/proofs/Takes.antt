@@ -47,7 +47,7 @@ test-false {t} e h = sym e ∙ not-true t h
 
 -- ---- a sequence that is begun
 
--- what the functions of a row ask: the first byte lies between two bounds between which the table has one row
+-- where the functions of a row promise their answer: the first byte lies between two bounds between which the table has one row
 pub begins-between : (least most : ℕ) → T (uncut least most table37) → {text : List ℕ} {at a lo hi : ℕ} → at < length text → a ≡ getD text at 0
     → least ≤ a → a ≤ most → lo ≤ least → most ≤ hi → Begins text at a (between none least most table37) lo hi
 begins-between least most t inside is h k p q =

@@ -4,13 +4,13 @@ use mathlib.Core.Path.{_≡_}
 use mathlib.Core.Option.{Option}
 use mathlib.Core.List.{List, [], _∷_}
 use Prim.Native.Nat.{ℕ, _≤_, _<_}
-use lib.ListN.{length, getD}
-use Rattle.laws.specs.Pieces.{Piece, good, ill}
+use lib.ListN.{length, getD, drop}
+use Rattle.laws.specs.Pieces.{Piece, good, ill, pieces}
 use Rattle.laws.specs.Writing.{Fronts}
 use Rattle.answers.specs.Checks.{takesBytes}
 use Rattle.answers.specs.Verdicts.{Verdict, done, Fills}
 use Rattle.answers.specs.Answers.{refusedBy}
-use Rattle.utf8.specs.Table37.{Bytes, rowOf}
+use Rattle.utf8.specs.Table37.{Bytes, rowOf, kindOf}
 use Rattle.utf8.specs.Utf8.{valueOf, illText}
 use Rattle.utf8.specs.declared.read.Taken.{Taken}
 use Rattle.utf8.specs.declared.read.Counted.{Counted}
@@ -30,13 +30,17 @@ takenFrom [] = goodOf 0 0
 takenFrom (good u ∷ P) = goodOf (valueOf u) (length u)
 takenFrom (ill u ∷ P) = illOf (length u)
 
--- at an index stands the first byte a, of the row `row`, between lo and hi: what the private functions of a row ask
+-- at an index stands the first byte a, of the row `row`, between lo and hi: where the functions of a row promise their answer
 pub record Begins (text : List ℕ) (at a : ℕ) (row : Option (List Bytes)) (lo hi : ℕ) : Type 0 where
   pub inside : at < length text
   pub is : a ≡ getD text at 0
   pub picks : rowOf a ≡ row
   pub least : lo ≤ a
   pub most : a ≤ hi
+
+-- what they promise: where the row begins at the index, the first of the pieces from there on
+pub record Row (text : List ℕ) (at a : ℕ) (row : Option (List Bytes)) (lo hi : ℕ) (r : Taken) : Type 0 where
+  pub taken : Begins text at a row lo hi → r ≡ takenFrom (pieces kindOf (drop at text))
 
 -- what is made of the bytes fills the front of the buffer, and what was counted is its length and the number of ill-formed subparts
 pub record ReadFronts (make : List ℕ → List ℕ) (text out : List ℕ) (r : Counted) (out′ : List ℕ) : Type 0 where

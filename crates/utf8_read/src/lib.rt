@@ -1,8 +1,7 @@
 // Reading a text of bytes as UTF-8 into a lent buffer (document 01, 'Bytes').
-// Not here: what begins at an index (crate utf8), writing (crate utf8_write), joining what is read (crate mending).
+// Not here: what begins at an index (crate utf8_at), writing (crate utf8_write), joining what is read (crate mending).
 use answers::Checked;
 use answers::Refusal;
-use utf8::read;
 use utf8::read::Counted;
 use utf8::read::Read;
 ghost use mathlib.Core.Path.{_≡_};
@@ -20,7 +19,7 @@ fn read_count(text: &[u8]) -> usize
     let mut count: usize = 0;
     let mut at = 0;
     while at < text.len() {
-        let taken = read::read_at(text, at);
+        let taken = utf8_at::read_at(text, at);
         at += taken.size;
         count += 1;
     }
@@ -53,7 +52,7 @@ fn read_into(text: &[u8], out: &mut [u32]) -> Counted
     let mut ills: usize = 0;
     let mut read = 0;
     while read < text.len() {
-        let taken = read::read_at(text, read);
+        let taken = utf8_at::read_at(text, read);
         out[length] = taken.code;
         length += 1;
         ills += taken.ill;

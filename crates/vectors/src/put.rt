@@ -90,7 +90,7 @@ fn decimal(value: u64, answer: &mut [u8], at: usize) -> usize {
 
 // A refusal as `refused`, its number and its place.
 pub fn refusal(refusal: Refusal, answer: &mut [u8], at: usize) -> usize {
-    let told = answers::tell(refusal);
+    let told = answers_told::tell(refusal);
     let end = bytes(b"refused ", answer, at);
     let end = decimal(told.number as u64, answer, end);
     let end = byte(b' ', answer, end);

@@ -24,7 +24,7 @@ pub fn step(operand: &[u8], codes: &mut [u32], answer: &mut [u8]) -> usize {
     if count != 1 {
         return put::spoilt(answer);
     }
-    let stepped = letters::step::one_step(codes[0]);
+    let stepped = letters_step::one_step(codes[0]);
     match stepped {
         Stepped::Into(parts) => put_parts(parts, answer),
         Stepped::Refused(refusal) => put::refusal(refusal, answer, 0),

@@ -18,7 +18,7 @@ fn make(call: Text, text: &[u32], made: &mut [u32]) -> Filled {
         Text::Parts => letters_apart::full_parts(text, made),
         Text::Simple => clusters_simple::simple_form(text, made),
         Text::Gather => clusters_gathered::gathered_form(text, made),
-        Text::Groups => fillers::groups::turn(text, made),
+        Text::Groups => fillers_text::turn(text, made),
     }
 }
 

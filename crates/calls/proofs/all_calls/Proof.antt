@@ -17,8 +17,8 @@ abbrev μ-loop : tie.MeasureT-loop
 loop-holds : tie.Need-loop-holds Inv-loop μ-loop
 loop-holds c = search needs
 
-one-call-requires : tie.Need-one-call-requires Inv-loop μ-loop
-one-call-requires c κs = search needs
+answer-call-requires : tie.Need-answer-call-requires Inv-loop μ-loop
+answer-call-requires c κs = search needs
 
 sub-turns : tie.Need-sub-turns Inv-loop μ-loop
 sub-turns c = search needs
@@ -78,7 +78,7 @@ all-calls-spec =
     Inv-loop
     μ-loop
     loop-holds
-    one-call-requires
+    answer-call-requires
     sub-turns
     loop-less
     loop-again

@@ -1,10 +1,10 @@
 -- `clusters_gathered::gathered_count` meets its contract. The loop's invariant: what is counted and what is still to come make up the whole, and the
 -- fourteen places that it writes to stay fourteen.
 -- Assumes nothing.
-use Rattle.clusters_gathered.proofs.Stepping.{gathered-begin, gathered-piece, gathered-last, scratch-room, scratch-rest, turned-length, wrote-size}
+use Rattle.clusters_gathered.proofs.Loops.{gathered-begin, gathered-piece, gathered-last, scratch-room, scratch-rest, turned-length, wrote-size}
 use Rattle.clusters.proofs.GatheredForm.{gathered-most}
 use Rattle.clusters.specs.Steps.{coded}
-use Rattle.clusters_gathered.specs.Steps.{stateOf}
+use Rattle.clusters_writing.specs.Steps.{stateOf}
 use Rattle.clusters.specs.Gathering.{gathered}
 use Rattle.laws.proofs.Filling.{Counting, counting-begin, counting-fits, counting-more, counting-last, wrote-length}
 use Rattle.laws.specs.Machines.{from}
@@ -39,21 +39,18 @@ slice-aggregate-put-gathered : tie.Need-slice-aggregate-put-gathered Inv-loop μ
 slice-aggregate-put-gathered c = search needs
 
 put-gathered-requires : tie.Need-put-gathered-requires Inv-loop μ-loop
-put-gathered-requires c κs = (
-  c .before .before .before .before .before .before .before .pre .1,
-  scratch-room (c .before .before .before .loop .writer) (c .before .before .before .loop .inv .1) (c .before .before .before .loop .inv .2) _,
-)
+put-gathered-requires c κs = search needs
 
 add-total : tie.Need-add-total Inv-loop μ-loop
 add-total c =
+    let start = c .before .before .before .before .before .before .before .before .before .before in
+    let loop = c .before .before .before .before .before .before .loop in
+    let put = c .before .before .put-gathered .ensures (start .pre .1) (scratch-room (loop .writer) (loop .inv .1) (loop .inv .2) _) in
     omega (
       arith,
-      counting-fits (c .before .before .before .before .before .before .loop .inv .3)
-          (gathered-piece _ _ (c .before .before .before .before .before .before .loop .writer)
-          (c .before .before .before .before .before .loop-test .taken) (c .before .before .put-gathered .ensures))
-          (turned-length (c .before .before .before .before .before .before .loop .inv .2) (c .before .before .put-gathered .ensures)),
-      gathered-most (c .before .before .before .before .before .before .before .before .before .before .args .text .now),
-      c .before .before .before .before .before .before .before .before .before .before .pre .0,
+      counting-fits (loop .inv .3) (gathered-piece _ _ (loop .writer) (c .before .before .before .before .before .loop-test .taken) put) (turned-length (loop .inv .2) put),
+      gathered-most (start .args .text .now),
+      start .pre .0,
     )
 
 add-read : tie.Need-add-read Inv-loop μ-loop
@@ -63,41 +60,38 @@ loop-less : tie.Need-loop-less Inv-loop μ-loop
 loop-less c = search needs
 
 loop-again : tie.Need-loop-again Inv-loop μ-loop
-loop-again c = (
-  search needs,
-  wrote-length (c .before .before .before .put-gathered .ensures .writes) ∙ c .before .before .before .before .before .before .before .loop .inv .1,
-  refl,
-  counting-more (c .before .before .before .before .before .before .before .loop .inv .3)
-      (gathered-piece _ _ (c .before .before .before .before .before .before .before .loop .writer)
-      (c .before .before .before .before .before .before .loop-test .taken) (c .before .before .before .put-gathered .ensures))
-      (turned-length (c .before .before .before .before .before .before .before .loop .inv .2) (c .before .before .before .put-gathered .ensures)),
-)
+loop-again c =
+    let loop = c .before .before .before .before .before .before .before .loop in
+    let put = c .before .before .before .put-gathered .ensures (c .before .before .before .before .before .before .before .before .before .before .before .pre .1) (scratch-room (loop .writer) (loop .inv .1) (loop .inv .2) _) in (
+      search needs,
+      wrote-length (put .writes) ∙ loop .inv .1,
+      refl,
+      counting-more (loop .inv .3) (gathered-piece _ _ (loop .writer) (c .before .before .before .before .before .before .loop-test .taken) put) (turned-length (loop .inv .2) put),
+    )
 
 slice-aggregate-put-rest : tie.Need-slice-aggregate-put-rest Inv-loop μ-loop
 slice-aggregate-put-rest c = search needs
 
 put-rest-requires : tie.Need-put-rest-requires Inv-loop μ-loop
-put-rest-requires c κs = (
-  c .before .before .before .before .before .before .pre .1,
-  scratch-rest (c .before .before .loop .writer) (c .before .before .loop .inv .1) (c .before .before .loop .inv .2),
-)
+put-rest-requires c κs = search needs
 
 add-result : tie.Need-add-result Inv-loop μ-loop
 add-result c =
+    let start = c .before .before .before .before .before .before .before .before in
+    let loop = c .before .before .before .before .loop in
+    let rest = c .before .put-rest .ensures (start .pre .1) (scratch-rest (loop .writer) (loop .inv .1) (loop .inv .2)) in
     omega (
       arith,
-      counting-last (c .before .before .before .before .loop .inv .3)
-          (gathered-last _ _ (c .before .before .before .before .loop .writer) (c .before .before .before .loop-test .left))
-          (wrote-size (c .before .before .before .before .loop .inv .2) (c .before .put-rest .ensures)),
-      gathered-most (c .before .before .before .before .before .before .before .before .args .text .now),
-      c .before .before .before .before .before .before .before .before .pre .0,
+      counting-last (loop .inv .3) (gathered-last _ _ (loop .writer) (c .before .before .before .loop-test .left)) (wrote-size (loop .inv .2) rest),
+      gathered-most (start .args .text .now),
+      start .pre .0,
     )
 
 returns : tie.Need-returns Inv-loop μ-loop
 returns c =
-    counting-last (c .before .before .before .before .loop .inv .3)
-    (gathered-last _ _ (c .before .before .before .before .loop .writer) (c .before .before .before .loop-test .left))
-    (wrote-size (c .before .before .before .before .loop .inv .2) (c .before .put-rest .ensures))
+    let loop = c .before .before .before .before .loop in
+    let rest = c .before .put-rest .ensures (c .before .before .before .before .before .before .before .before .pre .1) (scratch-rest (loop .writer) (loop .inv .1) (loop .inv .2)) in
+    counting-last (loop .inv .3) (gathered-last _ _ (loop .writer) (c .before .before .before .loop-test .left)) (wrote-size (loop .inv .2) rest)
 
 pub gathered-count-spec : {M : Type 1} → statement M
 gathered-count-spec =

@@ -1,8 +1,8 @@
 -- `clusters_gathered::gathered_into` meets its contract. The loop's invariant: what is written and what is still to come make up the whole.
 -- Assumes nothing.
-use Rattle.clusters_gathered.proofs.Stepping.{filling-start, gathered-begin, gathered-next, gathered-piece, gathered-last}
+use Rattle.clusters_gathered.proofs.Loops.{filling-start, gathered-begin, gathered-next, gathered-piece, gathered-last}
 use Rattle.clusters.specs.Steps.{coded}
-use Rattle.clusters_gathered.specs.Steps.{stateOf}
+use Rattle.clusters_writing.specs.Steps.{stateOf}
 use Rattle.clusters.specs.Gathering.{gathered}
 use Rattle.laws.proofs.Filling.{Filling, filling-length, filling-room, filling-more, filling-last, wrote-length}
 use Rattle.laws.specs.Machines.{from}
@@ -33,11 +33,7 @@ shared-slice-read-put-gathered : tie.Need-shared-slice-read-put-gathered Inv-loo
 shared-slice-read-put-gathered c = search needs
 
 put-gathered-requires : tie.Need-put-gathered-requires Inv-loop μ-loop
-put-gathered-requires c κs = (
-  c .before .before .before .before .before .before .before .before .pre .0,
-  filling-room (c .before .before .before .before .before .before .before .before .pre .1) (c .before .before .before .loop .inv .1)
-      (gathered-next _ _ (c .before .before .before .loop .writer) (c .before .before .loop-test .taken)),
-)
+put-gathered-requires c κs = search needs
 
 add-read : tie.Need-add-read Inv-loop μ-loop
 add-read c = search needs
@@ -46,34 +42,32 @@ loop-less : tie.Need-loop-less Inv-loop μ-loop
 loop-less c = search needs
 
 loop-again : tie.Need-loop-again Inv-loop μ-loop
-loop-again c = (
-  search needs,
-  filling-more (c .before .before .before .before .before .before .before .before .before .before .before .pre .1)
-      (c .before .before .before .before .before .before .loop .inv .1)
-      (gathered-piece _ _ (c .before .before .before .before .before .before .loop .writer)
-      (c .before .before .before .before .before .loop-test .taken) (c .before .before .put-gathered .ensures))
-      (c .before .before .put-gathered .ensures .writes),
-)
+loop-again c =
+    let start = c .before .before .before .before .before .before .before .before .before .before .before in
+    let loop = c .before .before .before .before .before .before .loop in
+    let inside = c .before .before .before .before .before .loop-test .taken in
+    let room = filling-room (start .pre .1) (loop .inv .1) (gathered-next _ _ (loop .writer) inside) in
+    let put = c .before .before .put-gathered .ensures (start .pre .0) room in
+    (search needs, filling-more (start .pre .1) (loop .inv .1) (gathered-piece _ _ (loop .writer) inside put) (put .writes))
 
 put-rest-requires : tie.Need-put-rest-requires Inv-loop μ-loop
-put-rest-requires c κs = (
-  c .before .before .before .before .before .before .before .pre .0,
-  filling-room (c .before .before .before .before .before .before .before .pre .1) (c .before .before .loop .inv .1)
-      (gathered-last _ _ (c .before .before .loop .writer) (c .before .loop-test .left)),
-)
+put-rest-requires c κs = search needs
 
 same-length : tie.Need-same-length Inv-loop μ-loop
 same-length c =
-    wrote-length (c .before .before .put-rest .ensures) ∙ filling-length
-    (c .before .before .before .before .before .before .before .before .before .before .pre .1)
-    (c .before .before .before .before .before .loop .inv .1)
+    let start = c .before .before .before .before .before .before .before .before .before .before in
+    let loop = c .before .before .before .before .before .loop in
+    let last = gathered-last _ _ (loop .writer) (c .before .before .before .before .loop-test .left) in
+    wrote-length (c .before .before .put-rest .ensures (start .pre .0) (filling-room (start .pre .1) (loop .inv .1) last))
+    ∙ filling-length (start .pre .1) (loop .inv .1)
 
 returns : tie.Need-returns Inv-loop μ-loop
 returns c =
-    filling-last (c .before .before .before .before .before .before .before .before .before .before .pre .1)
-    (c .before .before .before .before .before .loop .inv .1)
-    (gathered-last _ _ (c .before .before .before .before .before .loop .writer) (c .before .before .before .before .loop-test .left))
-    (c .before .before .put-rest .ensures)
+    let start = c .before .before .before .before .before .before .before .before .before .before in
+    let loop = c .before .before .before .before .before .loop in
+    let last = gathered-last _ _ (loop .writer) (c .before .before .before .before .loop-test .left) in
+    filling-last (start .pre .1) (loop .inv .1) last
+    (c .before .before .put-rest .ensures (start .pre .0) (filling-room (start .pre .1) (loop .inv .1) last))
 
 pub gathered-into-spec : {M : Type 1} → statement M
 gathered-into-spec =

@@ -1,6 +1,6 @@
 -- `clusters_gathered::writer_at` meets its contract: nothing is open.
 -- Assumes nothing.
-use Rattle.clusters_gathered.proofs.Stepping.{start-state}
+use Rattle.clusters_gathered.proofs.Loops.{start-state}
 use mathlib.Core.Path.{refl}
 use borrow.Author.Needs.{needs}
 use Rattle.clusters_gathered.proofs.writer_at.Statement.{statement}

@@ -34,10 +34,7 @@ step-requires : tie.Need-step-requires Inv-loop μ-loop
 step-requires c κs = search needs
 
 put-requires : tie.Need-put-requires Inv-loop μ-loop
-put-requires c κs =
-    filling-room (c .before .before .before .before .before .before .before .before .before .pre)
-    (c .before .before .before .before .before .loop .inv .1)
-    (join-piece _ _ _ (c .before .before .before .before .loop-test .taken) (c .before .before .step .ensures))
+put-requires c κs = search needs
 
 add-read : tie.Need-add-read Inv-loop μ-loop
 add-read c = search needs
@@ -48,19 +45,18 @@ loop-less c = search needs
 loop-again : tie.Need-loop-again Inv-loop μ-loop
 loop-again c = (
   search needs,
-  filling-more (c .before .before .before .before .before .before .before .before .before .before .before .before .pre)
-      (c .before .before .before .before .before .before .before .before .loop .inv .1)
-      (join-piece _ _ _ (c .before .before .before .before .before .before .before .loop-test .taken)
-      (c .before .before .before .before .before .step .ensures)) (c .before .before .put .ensures),
+  let step = c .before .before .before .before .before in
+      let loop = step .before .before .before in
+      let room = loop .before .before .before .before .pre in
+      let piece = join-piece _ _ _ (step .before .before .loop-test .taken) (step .step .ensures) in
+      filling-more room (loop .loop .inv .1) piece (c .before .before .put .ensures (filling-room room (loop .loop .inv .1) piece)),
 )
 
 flush-requires : tie.Need-flush-requires Inv-loop μ-loop
 flush-requires c κs = search needs
 
 put-requires-2 : tie.Need-put-requires-2 Inv-loop μ-loop
-put-requires-2 c κs =
-    filling-room (c .before .before .before .before .before .before .before .pre) (c .before .before .before .loop .inv .1)
-    (join-last _ _ _ (c .before .before .loop-test .left) (c .before .flush .ensures))
+put-requires-2 c κs = search needs
 
 same-length : tie.Need-same-length Inv-loop μ-loop
 same-length c =
@@ -69,10 +65,10 @@ same-length c =
 
 returns : tie.Need-returns Inv-loop μ-loop
 returns c =
-    filling-last (c .before .before .before .before .before .before .before .before .before .before .pre)
-    (c .before .before .before .before .before .before .loop .inv .1)
-    (join-last _ _ _ (c .before .before .before .before .before .loop-test .left) (c .before .before .before .before .flush .ensures))
-    (c .before .before .put2 .ensures)
+    let room = c .before .before .before .before .before .before .before .before .before .before .pre in
+    let before = c .before .before .before .before .before .before .loop .inv .1 in
+    let last = join-last _ _ _ (c .before .before .before .before .before .loop-test .left) (c .before .before .before .before .flush .ensures) in
+    filling-last room before last (c .before .before .put2 .ensures (filling-room room before last))
 
 pub write-joined-spec : {M : Type 1} → statement M
 write-joined-spec =

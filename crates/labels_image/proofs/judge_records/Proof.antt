@@ -1,6 +1,7 @@
 -- `labels_image::judge_records` meets its contract. The loop's invariant: the records from the number on are judged as all are.
 -- Assumes nothing.
 use Prim.Native.Nat.{_≤_, _-_}
+use native.Mathlib.Omega.{arith}
 use Rattle.labels.specs.Images.{countOf}
 use Rattle.labels.proofs.Judging.{Judging, faulty-none, faulty-some, judging-none, judging-more, judging-bad, judging-all}
 use borrow.Author.Needs.{needs}
@@ -22,7 +23,7 @@ fault-at-requires c κs = search needs
 returns : tie.Need-returns Inv-loop μ-loop
 returns c =
     judging-bad _ (c .before .before .before .loop .inv .1) (c .before .before .before .before .before .pre) (c .before .before .loop-test .taken)
-    (faulty-some (c .before .fault-at .ensures) (c .if1 .taken))
+    (faulty-some (c .before .fault-at .ensures (omega (arith, c .before .before .loop-test .taken))) (c .if1 .taken))
 
 add-number : tie.Need-add-number Inv-loop μ-loop
 add-number c = search needs
@@ -34,7 +35,7 @@ loop-again : tie.Need-loop-again Inv-loop μ-loop
 loop-again c = (
   search needs,
   judging-more _ (c .before .before .before .loop .inv .1) (c .before .before .loop-test .taken)
-      (faulty-none (c .before .fault-at .ensures) (c .if1 .left)),
+      (faulty-none (c .before .fault-at .ensures (omega (arith, c .before .before .loop-test .taken))) (c .if1 .left)),
 )
 
 returns-2 : tie.Need-returns-2 Inv-loop μ-loop

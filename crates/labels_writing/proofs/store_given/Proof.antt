@@ -18,7 +18,9 @@ same-length c = search needs
 returns-2 : tie.Need-returns-2
 returns-2 c =
     stores-done _ _ _ _ (c .before .before .before .before .before .before .before .args .label .now)
-    (omega (arith, c .before .before .before .before .if1 .left)) (c .before .before .put-at .ensures)
+    (omega (arith, c .before .before .before .before .if1 .left))
+    (c .before .before .put-at .ensures (c .before .before .before .before .before .before .before .pre)
+    (omega (arith, c .before .before .before .before .if1 .left)))
 
 pub store-given-spec : {M : Type 1} → statement M
 store-given-spec = tie.close (tie.spec returns put-at-requires same-length returns-2)

@@ -28,11 +28,7 @@ slice-aggregate-put-at c =
     (c .before .before .before .before .before .before .mend .ensures) (c .before .before .before .read .given .1)
 
 put-at-requires : tie.Need-put-at-requires
-put-at-requires c κs = (
-  c .before .before .before .before .before .before .before .before .before .before .pre .0,
-  joined-most _ _ (c .before .before .before .before .before .before .before .before .before .before .pre .1)
-      (c .before .before .before .before .before .before .mend .ensures) (c .before .before .before .read .given .1) (search needs),
-)
+put-at-requires c κs = search needs
 
 returns : tie.Need-returns
 returns c =
@@ -44,9 +40,11 @@ same-length c = search needs
 
 returns-2 : tie.Need-returns-2
 returns-2 c =
-    joined-done _ _ (c .before .before .before .before .before .before .before .before .before .before .before .before .before .pre .1)
-    (c .before .before .before .before .before .before .before .before .before .mend .ensures)
-    (c .before .before .before .before .before .before .read .given .1) _ _ _ _ (search needs) (c .before .before .put-at .ensures)
+    let mended = c .before .before .before .before .before .before .before .before .before in
+    let start = mended .before .before .before .before in
+    joined-done _ _ (start .pre .1) (mended .mend .ensures) (c .before .before .before .before .before .before .read .given .1) _ _ _ _ (search needs)
+    (c .before .before .put-at .ensures (start .pre .0)
+    (joined-most _ _ (start .pre .1) (mended .mend .ensures) (c .before .before .before .before .before .before .read .given .1) (search needs)))
 
 pub store-joined-spec : {M : Type 1} → statement M
 store-joined-spec =

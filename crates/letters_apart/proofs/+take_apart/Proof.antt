@@ -11,7 +11,7 @@ use borrow.Fn.PlainCycle.{Measures, is, falls, and}
 use Rattle.letters_apart.proofs.take_apart.Reads as take-apart
 use Rattle.letters_apart.proofs.take_apart.Kinds as take-apart-kinds
 use Rattle.letters_apart.proofs.+take_apart.Lts-take_apart as take-apart-lts
-use Rattle.letters.proofs.step.parts_of.Reads as parts-of-reads
+use Rattle.letters_step.proofs.parts_of.Reads as parts-of-reads
 use Rattle.letters_apart.proofs.+take_apart.{statement}
 use Rattle.letters_apart.proofs.+take_apart.Tie.{close}
 

@@ -25,7 +25,7 @@ add-tail-at : tie.Need-add-tail-at
 add-tail-at c = search (needs, initial-inside _ _ (c .before .before .tail-at .ensures) (c .before .if1 .left) (c .if2 .left))
 
 tail-at-requires-2 : tie.Need-tail-at-requires-2
-tail-at-requires-2 c κs = initial-inside _ _ (c .before .before .tail-at .ensures) (c .before .if1 .left) (c .if2 .left)
+tail-at-requires-2 c κs = search needs
 
 none-requires-3 : tie.Need-none-requires-3
 none-requires-3 c κs = search needs

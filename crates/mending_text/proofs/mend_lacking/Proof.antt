@@ -17,10 +17,10 @@ mended-count-requires : tie.Need-mended-count-requires
 mended-count-requires c κs = search needs
 
 returns-2 : tie.Need-returns-2
-returns-2 c = lacking-counted _ _ (c .before .mended-count .ensures) (c .if2 .taken)
+returns-2 c = lacking-counted _ _ (c .before .mended-count .ensures (c .before .before .before .before .pre)) (c .if2 .taken)
 
 returns-3 : tie.Need-returns-3
-returns-3 c = lacking-none _ _ (omega (arith, c .before .mended-count .ensures, c .if2 .left))
+returns-3 c = lacking-none _ _ (omega (arith, c .before .mended-count .ensures (c .before .before .before .before .pre), c .if2 .left))
 
 pub mend-lacking-spec : {M : Type 1} → statement M
 mend-lacking-spec = tie.close (tie.spec mul-if1 returns mended-count-requires returns-2 returns-3)

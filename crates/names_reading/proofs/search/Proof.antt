@@ -41,20 +41,26 @@ string-at-requires :
     tie.Need-string-at-requires Inv-loop2 μ-loop2 Inv-loop μ-loop Inv-search μ-search
 string-at-requires c κs = search needs
 
+sub-fits : tie.Need-sub-fits Inv-loop2 μ-loop2 Inv-loop μ-loop Inv-search μ-search
+sub-fits c = prefix-long (c .before .before .search .inv) (c .before .if1 .left)
+
+part-fits-start : tie.Need-part-fits-start Inv-loop2 μ-loop2 Inv-loop μ-loop Inv-search μ-search
+part-fits-start c = prefix-long (c .before .before .search .inv) (c .before .if1 .left)
+
+part-fits-end : tie.Need-part-fits-end Inv-loop2 μ-loop2 Inv-loop μ-loop Inv-search μ-search
+part-fits-end c = search needs
+
 fits-requires : tie.Need-fits-requires Inv-loop2 μ-loop2 Inv-loop μ-loop Inv-search μ-search
-fits-requires c κs = (
-  spelled _ (c .before .before .before .before .before .before .before .before .before .pre .0) (c .string-at .ensures) .few,
-  prefix-long (c .before .before .search .inv) (c .before .if1 .left),
-)
+fits-requires c κs = search needs
 
 start-requires-2 : tie.Need-start-requires-2 Inv-loop2 μ-loop2 Inv-loop μ-loop Inv-search μ-search
 start-requires-2 c κs = search needs
 
 loop-holds : tie.Need-loop-holds Inv-loop2 μ-loop2 Inv-loop μ-loop Inv-search μ-search
 loop-holds c =
-    peaks-none
-    (spelled _ (c .before .before .before .before .before .before .before .before .before .before .before .pre .0) (c .before .before .string-at .ensures))
-    (c .before .fits2 .ensures) (c .start2 .ensures)
+    let initial = spelled _ (c .before .before .before .before .before .before .before .before .before .before .before .before .pre .0)
+    (c .before .before .before .string-at .ensures) in
+    peaks-none initial (c .before .fits2 .ensures (initial .few)) (c .start2 .ensures)
 
 string-at-requires-2 :
     tie.Need-string-at-requires-2 Inv-loop2 μ-loop2 Inv-loop μ-loop Inv-search μ-search
@@ -64,42 +70,59 @@ add-behind-initial :
     tie.Need-add-behind-initial Inv-loop2 μ-loop2 Inv-loop μ-loop Inv-search μ-search
 add-behind-initial c = omega (arith, c .before .before .before .loop .inv .initial .few)
 
-fits-requires-2 :
-    tie.Need-fits-requires-2 Inv-loop2 μ-loop2 Inv-loop μ-loop Inv-search μ-search
-fits-requires-2 c κs = (
-  spelled _ (c .before .before .before .before .before .before .before .before .before .before .before .before .before .before .before .pre .1 .0)
-      (c .before .string-at2 .ensures) .few,
-  initial-long (c .before .before .before .before .before .before .before .before .search .inv)
-      (c .before .before .before .before .before .before .before .if1 .left) (c .before .before .before .loop .inv) (c .before .before .loop-test .taken),
-)
+sub-fits-2 : tie.Need-sub-fits-2 Inv-loop2 μ-loop2 Inv-loop μ-loop Inv-search μ-search
+sub-fits-2 c =
+    let peaks = c .before .before in
+    initial-long (peaks .before .before .before .before .before .before .before .search .inv) (peaks .before .before .before .before .before .before .if1 .left)
+    (peaks .before .loop .inv) (peaks .loop-test .taken)
+
+part-fits-start-2 :
+    tie.Need-part-fits-start-2 Inv-loop2 μ-loop2 Inv-loop μ-loop Inv-search μ-search
+part-fits-start-2 c =
+    let peaks = c .before .before in
+    initial-long (peaks .before .before .before .before .before .before .before .search .inv) (peaks .before .before .before .before .before .before .if1 .left)
+    (peaks .before .loop .inv) (peaks .loop-test .taken)
+
+part-fits-end-2 : tie.Need-part-fits-end-2 Inv-loop2 μ-loop2 Inv-loop μ-loop Inv-search μ-search
+part-fits-end-2 c = search needs
+
+fits-requires-2 : tie.Need-fits-requires-2 Inv-loop2 μ-loop2 Inv-loop μ-loop Inv-search μ-search
+fits-requires-2 c κs = search needs
 
 start-requires-3 : tie.Need-start-requires-3 Inv-loop2 μ-loop2 Inv-loop μ-loop Inv-search μ-search
 start-requires-3 c κs = search needs
 
 loop2-holds : tie.Need-loop2-holds Inv-loop2 μ-loop2 Inv-loop μ-loop Inv-search μ-search
 loop2-holds c =
-    finals-none (c .before .before .before .before .before .loop .inv)
-    (spelled _ (c .before .before .before .before .before .before .before .before .before .before .before .before .before .before .before .before .before .pre .1 .0) (c .before .before .before .string-at2 .ensures))
-    (c .before .fits3 .ensures) (c .start3 .ensures)
+    let peaks = c .before .before .before .before .before in
+    let peak = spelled _ (peaks .before .before .before .before .before .before .before .before .before .before .before .before .before .before .pre .1 .0)
+    (c .before .before .before .before .string-at2 .ensures) in
+    finals-none (peaks .before .loop .inv) peak (c .before .fits3 .ensures (peak .few)) (c .start3 .ensures)
 
-add-ends : tie.Need-add-ends Inv-loop2 μ-loop2 Inv-loop μ-loop Inv-search μ-search
-add-ends c = omega (arith, c .before .before .loop2 .inv .initial .few, c .before .before .loop2 .inv .peak .few)
+add-behind-peak : tie.Need-add-behind-peak Inv-loop2 μ-loop2 Inv-loop μ-loop Inv-search μ-search
+add-behind-peak c = omega (arith, c .before .before .loop2 .inv .initial .few, c .before .before .loop2 .inv .peak .few)
+
+sub-ends : tie.Need-sub-ends Inv-loop2 μ-loop2 Inv-loop μ-loop Inv-search μ-search
+sub-ends c =
+    let peaks = c .before .before .before .before .before .before .before .before in
+    peak-long (peaks .before .before .before .before .before .before .before .search .inv) (peaks .before .before .before .before .before .before .if1 .left)
+    (peaks .before .loop .inv) (peaks .loop-test .taken) (c .before .before .loop2 .inv) (c .before .loop2-test .taken)
+
+part-ends-start : tie.Need-part-ends-start Inv-loop2 μ-loop2 Inv-loop μ-loop Inv-search μ-search
+part-ends-start c =
+    let peaks = c .before .before .before .before .before .before .before .before in
+    peak-long (peaks .before .before .before .before .before .before .before .search .inv) (peaks .before .before .before .before .before .before .if1 .left)
+    (peaks .before .loop .inv) (peaks .loop-test .taken) (c .before .before .loop2 .inv) (c .before .loop2-test .taken)
+
+part-ends-end : tie.Need-part-ends-end Inv-loop2 μ-loop2 Inv-loop μ-loop Inv-search μ-search
+part-ends-end c = search needs
 
 string-at-requires-3 :
     tie.Need-string-at-requires-3 Inv-loop2 μ-loop2 Inv-loop μ-loop Inv-search μ-search
 string-at-requires-3 c κs = search needs
 
 ends-requires : tie.Need-ends-requires Inv-loop2 μ-loop2 Inv-loop μ-loop Inv-search μ-search
-ends-requires c κs = (
-  spelled _
-      (c .before .before .before .before .before .before .before .before .before .before .before .before .before .before .before .before .before .before .before .before .before .pre .1 .1)
-      (c .string-at3 .ensures) .few,
-  peak-long (c .before .before .before .before .before .before .before .before .before .before .before .before .before .before .search .inv)
-      (c .before .before .before .before .before .before .before .before .before .before .before .before .before .if1 .left)
-      (c .before .before .before .before .before .before .before .before .before .loop .inv)
-      (c .before .before .before .before .before .before .before .before .loop-test .taken) (c .before .before .before .loop2 .inv)
-      (c .before .before .loop2-test .taken),
-)
+ends-requires c κs = search needs
 
 add-f : tie.Need-add-f Inv-loop2 μ-loop2 Inv-loop μ-loop Inv-search μ-search
 add-f c = search needs
@@ -109,9 +132,11 @@ loop2-less c = search needs
 
 loop2-again : tie.Need-loop2-again Inv-loop2 μ-loop2 Inv-loop μ-loop Inv-search μ-search
 loop2-again c =
-    finals-more (c .before .before .before .before .before .loop2 .inv) (c .before .before .before .before .loop2-test .taken)
-    (spelled _ (c .before .before .before .before .before .before .before .before .before .before .before .before .before .before .before .before .before .before .before .before .before .before .before .pre .1 .1) (c .before .before .string-at3 .ensures))
-    (c .before .ends .ensures) (c .if2 .left)
+    let finals = c .before .before .before .before .before in
+    let peaks = finals .before .before .before .before .before .before .before in
+    let final = spelled _ (peaks .before .before .before .before .before .before .before .before .before .before .before .before .before .before .pre .1 .1)
+    (c .before .before .string-at3 .ensures) in
+    finals-more (finals .before .loop2 .inv) (finals .loop2-test .taken) final (c .before .ends .ensures (final .few)) (c .if2 .left)
 
 add-p : tie.Need-add-p Inv-loop2 μ-loop2 Inv-loop μ-loop Inv-search μ-search
 add-p c = search needs
@@ -121,8 +146,8 @@ loop-less c = search needs
 
 loop-again : tie.Need-loop-again Inv-loop2 μ-loop2 Inv-loop μ-loop Inv-search μ-search
 loop-again c =
-    peaks-more (c .before .before .before .before .before .before .before .loop .inv)
-    (c .before .before .before .before .before .before .loop-test .taken) (c .before .loop2 .inv) (c .loop2-test .left)
+    peaks-more (c .before .before .before .before .before .before .before .before .loop .inv)
+    (c .before .before .before .before .before .before .before .loop-test .taken) (c .before .loop2 .inv) (c .loop2-test .left)
 
 add-i : tie.Need-add-i Inv-loop2 μ-loop2 Inv-loop μ-loop Inv-search μ-search
 add-i c = search needs
@@ -132,7 +157,7 @@ search-less c = search needs
 
 search-again : tie.Need-search-again Inv-loop2 μ-loop2 Inv-loop μ-loop Inv-search μ-search
 search-again c =
-    initials-more (c .before .before .before .before .before .before .search .inv) (c .before .before .before .before .before .if1 .left)
+    initials-more (c .before .before .before .before .before .before .before .search .inv) (c .before .before .before .before .before .before .if1 .left)
     (c .before .loop .inv) (c .loop-test .left)
 
 returns : tie.Need-returns Inv-loop2 μ-loop2 Inv-loop μ-loop Inv-search μ-search
@@ -140,14 +165,13 @@ returns c = initials-all (c .before .search .inv) (c .if1 .taken)
 
 returns-2 : tie.Need-returns-2 Inv-loop2 μ-loop2 Inv-loop μ-loop Inv-search μ-search
 returns-2 c =
-    finals-found
-    (c .before .before .before .before .before .before .before .before .before .before .before .before .before .before .before .before .search .inv)
-    (c .before .before .before .before .before .before .before .before .before .before .before .before .before .before .before .if1 .left)
-    (c .before .before .before .before .before .before .before .before .before .before .before .loop .inv)
-    (c .before .before .before .before .before .before .before .before .before .before .loop-test .taken)
-    (c .before .before .before .before .before .loop2 .inv) (c .before .before .before .before .loop2-test .taken)
-    (spelled _ (c .before .before .before .before .before .before .before .before .before .before .before .before .before .before .before .before .before .before .before .before .before .before .before .pre .1 .1) (c .before .before .string-at3 .ensures))
-    (c .before .ends .ensures) (c .if2 .taken)
+    let finals = c .before .before .before .before .before in
+    let peaks = finals .before .before .before .before .before .before .before in
+    let final = spelled _ (peaks .before .before .before .before .before .before .before .before .before .before .before .before .before .before .pre .1 .1)
+    (c .before .before .string-at3 .ensures) in
+    finals-found (peaks .before .before .before .before .before .before .before .search .inv) (peaks .before .before .before .before .before .before .if1 .left)
+    (peaks .before .loop .inv) (peaks .loop-test .taken) (finals .before .loop2 .inv) (finals .loop2-test .taken) final
+    (c .before .ends .ensures (final .few)) (c .if2 .taken)
 
 pub search-spec : {M : Type 1} → statement M
 search-spec =
@@ -163,15 +187,24 @@ search-spec =
     start-requires
     search-holds
     string-at-requires
+    sub-fits
+    part-fits-start
+    part-fits-end
     fits-requires
     start-requires-2
     loop-holds
     string-at-requires-2
     add-behind-initial
+    sub-fits-2
+    part-fits-start-2
+    part-fits-end-2
     fits-requires-2
     start-requires-3
     loop2-holds
-    add-ends
+    add-behind-peak
+    sub-ends
+    part-ends-start
+    part-ends-end
     string-at-requires-3
     ends-requires
     add-f

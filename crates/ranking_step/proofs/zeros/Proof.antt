@@ -1,6 +1,6 @@
 -- `ranking_step::zeros` meets its contract: a zero in front passes; with none left the two are numbers.
 -- Assumes nothing.
-use mathlib.Core.Path.{sym, _∙_}
+use mathlib.Core.Path.{refl, sym, _∙_}
 use Rattle.ranking.proofs.Steps.{steps-first-zero, steps-second-zero, steps-stout}
 use borrow.Author.Needs.{needs}
 use Rattle.ranking_step.proofs.zeros.Statement.{statement}
@@ -9,20 +9,14 @@ use Rattle.ranking_step.proofs.zeros.Tie as tie
 is-zero-requires : tie.Need-is-zero-requires
 is-zero-requires c κs = search needs
 
-first-zero-requires : tie.Need-first-zero-requires
-first-zero-requires c κs = search needs
-
 returns : tie.Need-returns
-returns c = steps-first-zero _ _ (sym (c .before .before .is-zero .ensures) ∙ c .before .if1 .taken) (c .first-zero .ensures)
+returns c = steps-first-zero _ _ (sym (c .before .is-zero .ensures) ∙ c .if1 .taken) refl
 
 is-zero-requires-2 : tie.Need-is-zero-requires-2
 is-zero-requires-2 c κs = search needs
 
-second-zero-requires : tie.Need-second-zero-requires
-second-zero-requires c κs = search needs
-
 returns-2 : tie.Need-returns-2
-returns-2 c = steps-second-zero _ _ (sym (c .before .before .is-zero2 .ensures) ∙ c .before .if2 .taken) (c .second-zero .ensures)
+returns-2 c = steps-second-zero _ _ (sym (c .before .is-zero2 .ensures) ∙ c .if2 .taken) refl
 
 number-requires : tie.Need-number-requires
 number-requires c κs = search needs
@@ -37,10 +31,8 @@ zeros-spec =
     tie.close
     (tie.spec
     is-zero-requires
-    first-zero-requires
     returns
     is-zero-requires-2
-    second-zero-requires
     returns-2
     number-requires
     returns-3)

@@ -27,12 +27,7 @@ shared-slice-read-put : tie.Need-shared-slice-read-put Inv-loop μ-loop
 shared-slice-read-put c = search needs
 
 put-requires : tie.Need-put-requires Inv-loop μ-loop
-put-requires c κs = (
-  number-below _ _ (c .before .before .before .before .before .before .pre .0) _ (c .before .before .before .before .before .before .pre .1 .0)
-      (c .before .before .loop-test .taken),
-  filling-room (c .before .before .before .before .before .before .pre .1 .1) (c .before .before .before .loop .inv .1)
-      (line-piece _ _ (c .before .before .before .before .before .before .pre .0) _ (c .before .before .loop-test .taken)),
-)
+put-requires c κs = search needs
 
 add-read : tie.Need-add-read Inv-loop μ-loop
 add-read c = search needs
@@ -43,11 +38,12 @@ loop-less c = search needs
 loop-again : tie.Need-loop-again Inv-loop μ-loop
 loop-again c = (
   search needs,
-  filling-more (c .before .before .before .before .before .before .before .before .before .pre .1 .1)
-      (c .before .before .before .before .before .before .loop .inv .1)
-      (line-piece _ _ (c .before .before .before .before .before .before .before .before .before .pre .0) _
-      (c .before .before .before .before .before .loop-test .taken))
-      (c .before .before .put .ensures),
+  let turn = c .before .before .before .before .before in
+      let asked = turn .before .before .before .before .pre in
+      let line = line-piece _ _ (asked .0) _ (turn .loop-test .taken) in
+      let below = number-below _ _ (asked .0) _ (asked .1 .0) (turn .loop-test .taken) in
+      filling-more (asked .1 .1) (turn .before .loop .inv .1) line
+      (c .before .before .put .ensures below (filling-room (asked .1 .1) (turn .before .loop .inv .1) line)),
 )
 
 same-length : tie.Need-same-length Inv-loop μ-loop

@@ -1,14 +1,21 @@
 -- `utf8_write::write_into` meets its contract. The loop's invariant: what is written and what is left make up the whole.
 -- Assumes nothing.
-use Rattle.utf8.proofs.Writing.{write-piece, write-end, taken-most}
-use Rattle.utf8.specs.Utf8.{bytesOf, writeText}
+use Rattle.utf8.proofs.Writing.{write-piece, write-end, taken-most, fitting-all}
+use Rattle.utf8.specs.Utf8.{bytesOf, writeText, fitting}
+use Rattle.laws.specs.Writing.{Room, Wrote}
 use Rattle.laws.proofs.Filling.{Filling, filling-none, filling-length, filling-room, filling-more, filling-all}
 use Rattle.laws.specs.Lists.{each}
 use lib.ListN.{length, drop}
-use Prim.Native.Nat.{_≤_, _-_}
+use mathlib.Core.List.{List}
+use Prim.Native.Nat.{ℕ, _≤_, _-_}
 use borrow.Author.Needs.{needs}
 use Rattle.utf8_write.proofs.write_into.Statement.{statement}
 use Rattle.utf8_write.proofs.write_into.Tie as tie
+
+-- a code point within the limit, and room for its bytes: what fits is all of them
+wrote-all : {c : ℕ} {out out′ : List ℕ} {k k′ : ℕ} → c ≤ 0x10FFFF → Room out k (bytesOf c) → Wrote out k (fitting c out k) k′ out′
+    → Wrote out k (bytesOf c) k′ out′
+wrote-all {c} {out} {k = k} h room w = rw (fitting-all c out k h (room .fits)) at w
 
 abbrev Inv-loop : tie.InvT-loop
 Inv-loop text out₀ at₀ read₀ out at read = (read ≤ length text) × Filling (writeText text) (each bytesOf (drop read text)) out₀ out at
@@ -19,18 +26,14 @@ abbrev μ-loop : tie.MeasureT-loop
 loop-holds : tie.Need-loop-holds Inv-loop μ-loop
 loop-holds c = (search needs, filling-none _ _)
 
-mul-put : tie.Need-mul-put Inv-loop μ-loop
-mul-put c = search needs
+mul-put-at : tie.Need-mul-put-at Inv-loop μ-loop
+mul-put-at c = search needs
 
-shared-slice-read-put : tie.Need-shared-slice-read-put Inv-loop μ-loop
-shared-slice-read-put c = search needs
+shared-slice-read-put-at : tie.Need-shared-slice-read-put-at Inv-loop μ-loop
+shared-slice-read-put-at c = search needs
 
-put-requires : tie.Need-put-requires Inv-loop μ-loop
-put-requires c κs = (
-  taken-most _ (c .before .before .before .before .before .before .pre .0) _ (c .before .before .loop-test .taken),
-  filling-room (c .before .before .before .before .before .before .pre .1) (c .before .before .before .loop .inv .1)
-      (write-piece _ _ (c .before .before .loop-test .taken)),
-)
+put-at-requires : tie.Need-put-at-requires Inv-loop μ-loop
+put-at-requires c κs = search needs
 
 add-read : tie.Need-add-read Inv-loop μ-loop
 add-read c = search needs
@@ -43,7 +46,13 @@ loop-again c = (
   search needs,
   filling-more (c .before .before .before .before .before .before .before .before .before .pre .1)
       (c .before .before .before .before .before .before .loop .inv .1)
-      (write-piece _ _ (c .before .before .before .before .before .loop-test .taken)) (c .before .before .put .ensures),
+      (write-piece _ _ (c .before .before .before .before .before .loop-test .taken))
+      (wrote-all
+      (taken-most _ (c .before .before .before .before .before .before .before .before .before .pre .0) _
+      (c .before .before .before .before .before .loop-test .taken))
+      (filling-room (c .before .before .before .before .before .before .before .before .before .pre .1)
+      (c .before .before .before .before .before .before .loop .inv .1)
+      (write-piece _ _ (c .before .before .before .before .before .loop-test .taken))) (c .before .before .put-at .ensures)),
 )
 
 same-length : tie.Need-same-length Inv-loop μ-loop
@@ -59,9 +68,9 @@ write-into-spec =
     Inv-loop
     μ-loop
     loop-holds
-    mul-put
-    shared-slice-read-put
-    put-requires
+    mul-put-at
+    shared-slice-read-put-at
+    put-at-requires
     add-read
     loop-less
     loop-again

@@ -1,0 +1,3 @@
+-- Crate demands_cases, proofs/: that the twelve cases hold.
+-- Not here: the statement (specs/).
+pub mod Cases

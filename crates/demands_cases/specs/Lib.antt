@@ -1,0 +1,3 @@
+-- Crate demands_cases, specs/: the twelve cases.
+-- Not here: any proof (proofs/).
+pub mod Cases

@@ -1,0 +1,94 @@
+// Crate fillers_group: the filler group that begins at an index of a text, and its syllable (document 01, 'Filler groups').
+// Not here: the definitions (crate fillers), a whole text turned (crate fillers_text).
+ghost use mathlib.Core.Path.{_≡_};
+ghost use Prim.Native.Nat.{_<_};
+ghost use lib.ListN.{length, drop};
+ghost use Rattle.fillers.specs.Groups.{asInitial, asPeak, asFinal};
+ghost use Rattle.fillers.specs.Codes.{orNone, Pairs, groupAt, syllableIn};
+
+// What stands for none, in the table and in what is read from it.
+const NONE: u32 = 99;
+
+// I and F of 3131 to 314E, in order; ten pairs a line, by hand: `rt fmt` would give each number a
+// line.
+const PAIRS: [u8; 60] = [
+    0, 1, 1, 2, 99, 3, 2, 4, 99, 5, 99, 6, 3, 7, 4, 99, 5, 8, 99, 9,
+    99, 10, 99, 11, 99, 12, 99, 13, 99, 14, 99, 15, 6, 16, 7, 17, 8, 99, 99, 18,
+    9, 19, 10, 20, 11, 21, 12, 22, 13, 99, 14, 23, 15, 24, 16, 25, 17, 26, 18, 27,
+];
+
+// The table. A call takes it once and lends it on, since each use of the constant puts the whole
+// table on the stack.
+pub fn pairs() -> [u8; 60]
+    ensures { λ r. ⌜ 60 ≡ length r ⌝ }
+    ensures { λ r. ⌜ Pairs r ⌝ }
+{
+    PAIRS
+}
+
+// I of an initial, or none.
+fn initial_of(code: u32, table: &[u8]) -> u32
+    requires { ⌜ 60 ≡ length (now table) ⌝ }
+    ensures { λ r. ⌜ r < 256 ⌝ }
+    ensures { λ r. ⌜ (Pairs (now (table .entry)) → r ≡ orNone (asInitial code)) ⌝ }
+{
+    match code {
+        0x3131..=0x314E => table[2 * (code - 0x3131) as usize] as u32,
+        _ => NONE,
+    }
+}
+
+// P of a peak, or none.
+fn peak_of(code: u32) -> u32
+    ensures { λ r. ⌜ r ≡ orNone (asPeak code) ⌝ }
+{
+    match code {
+        0x314F..=0x3163 => code - 0x314F,
+        _ => NONE,
+    }
+}
+
+// F of a final, 0 for the filler that stands for no final, or none.
+fn final_of(code: u32, table: &[u8]) -> u32
+    requires { ⌜ 60 ≡ length (now table) ⌝ }
+    ensures { λ r. ⌜ r < 256 ⌝ }
+    ensures { λ r. ⌜ (Pairs (now (table .entry)) → r ≡ orNone (asFinal code)) ⌝ }
+{
+    match code {
+        0x3164 => 0,
+        0x3131..=0x314E => table[2 * (code - 0x3131) as usize + 1] as u32,
+        _ => NONE,
+    }
+}
+
+// The syllable of the group that begins at an index, or 0 where none does: by the table of `pairs`. It
+// takes every table; by another nothing is promised.
+pub fn group_at(text: &[u32], at: usize, table: &[u8]) -> u32
+    ensures { λ r. ⌜ (Pairs (now (table .entry)) → r ≡ syllableIn (groupAt (drop at (now (text .entry))))) ⌝ }
+{
+    if text.len() <= at {
+        return 0;
+    }
+    if text.len() - at < 4 {
+        return 0;
+    }
+    if text[at] != 0x3164 {
+        return 0;
+    }
+    if table.len() != 60 {
+        return 0;
+    }
+    let initial = initial_of(text[at + 1], table);
+    if initial == NONE {
+        return 0;
+    }
+    let peak = peak_of(text[at + 2]);
+    if peak == NONE {
+        return 0;
+    }
+    let last = final_of(text[at + 3], table);
+    if last == NONE {
+        return 0;
+    }
+    0xAC00 + initial * 588 + peak * 28 + last
+}

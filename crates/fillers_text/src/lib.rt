@@ -1,0 +1,94 @@
+// Crate fillers_text: turning the filler groups of a text into a lent buffer (document 01, 'Filler groups').
+// Not here: the definitions (crate fillers), the group at an index (crate fillers_group).
+use answers::Checked;
+use answers::Filled;
+use answers::Refusal;
+ghost use mathlib.Core.Path.{_≡_};
+ghost use Prim.Native.Nat.{_≤_};
+ghost use lib.ListN.{length};
+ghost use Rattle.laws.specs.Writing.{Fronts};
+ghost use Rattle.answers.specs.Checks.{lacking, passes, takesText};
+ghost use Rattle.answers.specs.Answers.{Makes};
+ghost use Rattle.fillers.specs.Groups.{turned};
+ghost use Rattle.fillers.specs.Codes.{Pairs};
+
+// Writes the text with its groups turned to the front of `out`, which has room for it.
+fn turn_into(text: &[u32], table: &[u8], out: &mut [u32]) -> usize
+    requires { ⌜ Pairs (now table) ⌝ }
+    requires { ⌜ length (turned (now text)) ≤ length (now out) ⌝ }
+    ensures { λ r. ⌜ Fronts (turned (now (text .entry))) (now (out .entry)) r (now (out .exit)) ⌝ }
+{
+    let mut read = 0;
+    let mut written = 0;
+    while read < text.len() {
+        let syllable = fillers_group::group_at(text, read, table);
+        if syllable == 0 {
+            out[written] = text[read];
+            read += 1;
+        } else {
+            out[written] = syllable;
+            read += 4;
+        }
+        written += 1;
+    }
+    written
+}
+
+// How long the text with its groups turned is.
+fn turned_count(text: &[u32], table: &[u8]) -> usize
+    requires { ⌜ Pairs (now table) ⌝ }
+    ensures { λ r. ⌜ r ≡ length (turned (now (text .entry))) ⌝ }
+{
+    let mut read = 0;
+    let mut count = 0;
+    while read < text.len() {
+        let syllable = fillers_group::group_at(text, read, table);
+        if syllable == 0 {
+            read += 1;
+        } else {
+            read += 4;
+        }
+        count += 1;
+    }
+    count
+}
+
+// The length needed where `room` does not do, else 0. As much as the text has always does, and then
+// nothing is counted.
+fn turn_lacking(text: &[u32], table: &[u8], room: usize) -> usize
+    requires { ⌜ Pairs (now table) ⌝ }
+    ensures { λ r. ⌜ r ≡ lacking room (length (turned (now (text .entry)))) ⌝ }
+{
+    if text.len() <= room {
+        return 0;
+    }
+    let needed = turned_count(text, table);
+    if room < needed {
+        return needed;
+    }
+    0
+}
+
+// A text that has passed its checks: refusal 3 or done.
+fn turn_checked(text: &[u32], out: &mut [u32]) -> Filled
+    requires { ⌜ takesText (now text) ≡ passes ⌝ }
+    ensures { λ r. ⌜ Makes turned (now (text .entry)) (now (out .entry)) r (now (out .exit)) ⌝ }
+{
+    let table = fillers_group::pairs();
+    let needed = turn_lacking(text, &table, out.len());
+    if needed != 0 {
+        return Filled::Refused(Refusal::NoRoom(needed));
+    }
+    Filled::Done(turn_into(text, &table, out))
+}
+
+// Turns the filler groups of a text into a lent buffer: refusals 1, 2 and 3.
+pub fn turn(text: &[u32], out: &mut [u32]) -> Filled
+    ensures { λ r. ⌜ Makes turned (now (text .entry)) (now (out .entry)) r (now (out .exit)) ⌝ }
+{
+    let checked = answers::check_text(text);
+    match checked {
+        Checked::Refused(refusal) => Filled::Refused(refusal),
+        Checked::Passed => turn_checked(text, out),
+    }
+}
