@@ -1,4 +1,5 @@
--- What the private functions that sort and print ask and promise. Not here: the order and the lines (specs/Sorting, specs/Printing). Assumes nothing.
+-- What the functions that put a number in its place ask and promise (crate sorting_order; all are private to it).
+-- Not here: the order and the lines (specs/Sorting, specs/Printing). Assumes nothing.
 use mathlib.Core.Path.{_≡_}
 use mathlib.Core.List.{List, _∷_, _++_}
 use Prim.Native.Nat.{ℕ, suc, _+_, _-_, _≤_, _<_}

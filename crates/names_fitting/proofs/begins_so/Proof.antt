@@ -1,4 +1,5 @@
--- `names_fitting::begins_so` meets its contract. The loop's invariant: the letters before `at` are the prefix's. Assumes nothing.
+-- `names_fitting::begins_so` meets its contract. The loop's invariant: the letters before `at` are the prefix's.
+-- Assumes nothing.
 use Prim.Native.Nat.{_-_}
 use Rattle.names.specs.Names.{prefix as bytes}
 use Rattle.names.proofs.Search.{PrefixTo, prefix-short, prefix-none, prefix-more, prefix-not, prefix-all}
