@@ -13,7 +13,7 @@ ghost use Rattle.mending.specs.Characters.{characterFrom};
 fn ill_size(text: &[u8], at: usize) -> usize
     ensures { λ r. ⌜ ((r ≡ 0 → ⊥) → characterFrom (pieces kindOf (drop at (now (text .entry)))) ≡ illOf r) ⌝ }
 {
-    let first = mending_passing::byte(text, at);
+    let first = mending_bytes::byte(text, at);
     if first < 0x80 {
         return 0;
     }
@@ -26,13 +26,13 @@ fn ill_size(text: &[u8], at: usize) -> usize
     if first > 0xEF {
         return 0;
     }
-    if !mending_syllables::is_continuation(mending_passing::byte(text, at + 1)) {
+    if !mending_bytes::is_continuation(mending_bytes::byte(text, at + 1)) {
         return 1;
     }
     if first == 0xED {
         return 0;
     }
-    if !mending_syllables::is_continuation(mending_passing::byte(text, at + 2)) {
+    if !mending_bytes::is_continuation(mending_bytes::byte(text, at + 2)) {
         return 2;
     }
     0

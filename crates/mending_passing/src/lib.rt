@@ -1,19 +1,8 @@
 // Bytes that pass: characters that stand in the mended text as they stand in the text, found in runs, never more than there are.
 // Not here: what runs are made of (crates mending_ascii, mending_syllables), and what has to be made (crate mending_character).
-ghost use mathlib.Core.Path.{_≡_};
 ghost use Prim.Native.Nat.{_≤_};
-ghost use lib.ListN.{length, getD};
+ghost use lib.ListN.{length};
 ghost use Rattle.mending.specs.Steps.{Passes};
-
-// The byte at an index, or 0 behind the end.
-pub fn byte(text: &[u8], at: usize) -> u8
-    ensures { λ r. ⌜ r ≡ getD (now (text .entry)) at 0 ⌝ }
-{
-    if at < text.len() {
-        return text[at];
-    }
-    0
-}
 
 // A run of ASCII, and behind it one of syllables.
 pub fn run(text: &[u8], from: usize) -> usize
@@ -36,7 +25,7 @@ pub fn passing(text: &[u8], from: usize) -> usize
         if end == at {
             return at;
         }
-        if byte(text, end) >= 0x80 {
+        if mending_bytes::byte(text, end) >= 0x80 {
             return end;
         }
         at = end;

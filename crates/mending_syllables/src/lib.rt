@@ -1,66 +1,8 @@
 // Bytes that pass: characters from A000 to D7FF behind which nothing can join, never more than there are.
-// Not here: ASCII (crate mending_ascii), runs of both (crate mending_passing).
-ghost use mathlib.Core.Path.{_≡_};
-ghost use mathlib.Core.Bool.{true};
+// Not here: what single bytes are (crate mending_bytes), ASCII (crate mending_ascii), runs of both (crate mending_passing).
 ghost use Prim.Native.Nat.{_≤_};
 ghost use lib.ListN.{length};
-ghost use Rattle.laws.specs.Ranges.{within};
-ghost use Rattle.mending.specs.Steps.{Passes, Three, Lead};
-
-// A character from A000 to D7FF, and behind it no letter of the block 1100–11FF.
-pub fn is_three(a: u8, b: u8, c: u8, d: u8) -> bool
-    ensures { λ r. ⌜ (r ≡ true → Three a b c d) ⌝ }
-{
-    if a < 0xEA {
-        return false;
-    }
-    if a > 0xED {
-        return false;
-    }
-    if d == 0xE1 {
-        return false;
-    }
-    if b < 0x80 {
-        return false;
-    }
-    if b > 0xBF {
-        return false;
-    }
-    if c < 0x80 {
-        return false;
-    }
-    if c > 0xBF {
-        return false;
-    }
-    if a < 0xED {
-        return true;
-    }
-    b < 0xA0
-}
-
-// The first two bytes of a character from A000 to D7FF: as one number they lie between EA80 and ED9F.
-fn is_lead(a: u8, b: u8) -> bool
-    ensures { λ r. ⌜ (r ≡ true → Lead a b) ⌝ }
-{
-    let both = a as u32 * 0x100 + b as u32;
-    if both < 0xEA80 {
-        return false;
-    }
-    if both > 0xED9F {
-        return false;
-    }
-    is_continuation(b)
-}
-
-// Does a byte continue a sequence?
-pub fn is_continuation(byte: u8) -> bool
-    ensures { λ r. ⌜ r ≡ within 0x80 0xBF byte ⌝ }
-{
-    if byte < 0x80 {
-        return false;
-    }
-    byte <= 0xBF
-}
+ghost use Rattle.mending.specs.Steps.{Passes};
 
 // Syllables and what lies beside them, behind which nothing can join, as long as there are four bytes. Each byte is
 // read when those before it fit, so that the end of a run is found by its first byte.
@@ -70,10 +12,10 @@ fn threes(text: &[u8], from: usize) -> usize
 {
     let mut at = from;
     while text.len() - at >= 4 {
-        if !is_lead(text[at], text[at + 1]) {
+        if !mending_bytes::is_lead(text[at], text[at + 1]) {
             return at;
         }
-        if !is_continuation(text[at + 2]) {
+        if !mending_bytes::is_continuation(text[at + 2]) {
             return at;
         }
         if text[at + 3] == 0xE1 {
@@ -92,7 +34,7 @@ fn last_three(text: &[u8], at: usize) -> usize
     if text.len() - at != 3 {
         return at;
     }
-    if !is_three(text[at], text[at + 1], text[at + 2], 0) {
+    if !mending_bytes::is_three(text[at], text[at + 1], text[at + 2], 0) {
         return at;
     }
     at + 3

@@ -60,7 +60,7 @@ fn skip(first: &[u8], second: &[u8], s: At) -> At
     requires { ⌜ Reached (now first) (now second) s ⌝ }
     ensures { λ r. ⌜ Follows mendedFrom (now (first .entry)) (now (second .entry)) s r ⌝ }
 {
-    if !ranking_walk::is_apart(s) {
+    if !ranking_state::is_apart(s) {
         return s;
     }
     let count = alike(first, second, s.first, s.second);
@@ -77,7 +77,7 @@ fn next_at(text: &[u8], at: usize) -> Next
     ensures { λ r. ⌜ Begins mendedFrom (now (text .entry)) at r ⌝ }
 {
     let taken = mending_quick::character_at(text, at);
-    ranking_walk::next_of(taken.code, taken.size)
+    ranking_state::next_of(taken.code, taken.size)
 }
 
 // One step.
@@ -102,10 +102,10 @@ fn rank_checked(first: &[u8], second: &[u8]) -> Order
         first: 0,
         second: 0,
     };
-    while ranking_walk::goes_on(s) {
+    while ranking_state::goes_on(s) {
         s = advance(first, second, s);
     }
-    ranking_walk::settled(s)
+    ranking_state::settled(s)
 }
 
 // 1 for the first text, then 1 for the second.

@@ -31,18 +31,18 @@ fn next_at(text: &[u32], at: usize) -> Next
     ensures { λ r. ⌜ Begins joinedFrom (now (text .entry)) at r ⌝ }
 {
     if text.len() <= at {
-        return ranking_walk::next_of(0, 0);
+        return ranking_state::next_of(0, 0);
     }
     let first = text[at];
     let two = joining_role::joined(first, code(text, at + 1));
     if two == 0 {
-        return ranking_walk::next_of(first, 1);
+        return ranking_state::next_of(first, 1);
     }
     let three = joining_role::joined(two, code(text, at + 2));
     if three == 0 {
-        return ranking_walk::next_of(two, 2);
+        return ranking_state::next_of(two, 2);
     }
-    ranking_walk::next_of(three, 3)
+    ranking_state::next_of(three, 3)
 }
 
 // One step.
@@ -66,10 +66,10 @@ fn rank_checked(first: &[u32], second: &[u32]) -> Order
         first: 0,
         second: 0,
     };
-    while ranking_walk::goes_on(s) {
+    while ranking_state::goes_on(s) {
         s = advance(first, second, s);
     }
-    ranking_walk::settled(s)
+    ranking_state::settled(s)
 }
 
 // 1 for the first text, 1 for the second, then 2 likewise.

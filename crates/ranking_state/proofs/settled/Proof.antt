@@ -1,12 +1,12 @@
--- `ranking_walk::settled` meets its contract: each return knows the state, and two labels that end here have no items left.
+-- `ranking_state::settled` meets its contract: each return knows the state, and two labels that end here have no items left.
 -- Assumes nothing.
 use mathlib.Core.Path.{sym, _∙_, ap}
 use mathlib.Core.List.{[]}
 use Rattle.ranking.specs.Steps.{rankFrom}
 use Rattle.ranking.proofs.Steps.{settled-apart, settled-zeros, settled-number}
 use borrow.Author.Needs.{needs}
-use Rattle.ranking_walk.proofs.settled.Statement.{statement}
-use Rattle.ranking_walk.proofs.settled.Tie as tie
+use Rattle.ranking_state.proofs.settled.Statement.{statement}
+use Rattle.ranking_state.proofs.settled.Tie as tie
 
 enum-told : tie.Need-enum-told
 enum-told c = search needs

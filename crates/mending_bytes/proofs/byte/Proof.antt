@@ -1,9 +1,9 @@
--- `mending_passing::byte` meets its contract: the byte at an index of the text, or 0 behind its end.
+-- `mending_bytes::byte` meets its contract: the byte at an index of the text, or 0 behind its end.
 -- Assumes nothing.
 use lib.ListN.{List·getD-eq-default}
 use borrow.Author.Needs.{needs}
-use Rattle.mending_passing.proofs.byte.Statement.{statement}
-use Rattle.mending_passing.proofs.byte.Tie as tie
+use Rattle.mending_bytes.proofs.byte.Statement.{statement}
+use Rattle.mending_bytes.proofs.byte.Tie as tie
 
 shared-slice-read-result : tie.Need-shared-slice-read-result
 shared-slice-read-result c = search needs
