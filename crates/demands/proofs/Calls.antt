@@ -30,7 +30,7 @@ use Rattle.ranking.specs.Ranking.{orderNumber, takesTwo, takesTwoBytes}
 use Rattle.labels.specs.Records.{layout}
 use Rattle.labels.specs.Images.{countOf, recordAt, overImage, noImage, noRecord, layoutsFrom, takesRecord, takesImage, noLabel, takesWriting, changed}
 use Rattle.pulphopper.specs.Replies.{countedAnswer, plainAnswer, orderAnswer}
-use Rattle.pulphopper.specs.declared.Answer.{Answer}
+use Rattle.pulphopper_answer.specs.declared.Answer.{Answer}
 use Rattle.demands.specs.Demand1.{Demand1}
 use Rattle.demands.specs.Calls as rows
 use Rattle.demands.proofs.Demand1.{kept, after-kept, demanded, answered, answered-one, answers-done, filled-demanded, filled-alone}

@@ -58,7 +58,7 @@ use Rattle.labels.specs.declared.image.Form.{Form}
 use Rattle.sorting.specs.Sorting.{orderOf, Orders}
 use Rattle.sorting.specs.Printing.{printed, Prints}
 use Rattle.pulphopper.specs.Replies.{Mends, NamesForC, ReadsNameForC, RanksForC}
-use Rattle.pulphopper.specs.declared.Answer.{Answer}
+use Rattle.pulphopper_answer.specs.declared.Answer.{Answer}
 use Rattle.demands.specs.Demand1.{Demand1, Answers}
 
 -- ---- the code's answers read as verdicts, where the crates below have no reading of their own

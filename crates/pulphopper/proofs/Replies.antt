@@ -1,15 +1,14 @@
--- Laws of what C is told: a refusal (`refused-is`); an answer by what mending answers (`mends-done`, `mends-few`, `mends-refused`), by what naming
+-- Laws of what C is told: an answer by what mending answers (`mends-done`, `mends-few`, `mends-refused`), by what naming
 -- answers (`names-done`, `names-refused`), by what reading a name does (`reads-done`, `reads-refused`) and by what ranking does (`ranks-done`,
 -- `ranks-refused`); and that any two results that a contract admits are equal (`mends-unique`, `names-unique`, `reads-unique`, `ranks-unique`).
 -- Not here: the verdicts (crate answers). Assumes nothing.
 use mathlib.Core.Path.{_≡_, sym, _∙_, ap}
 use mathlib.Core.List.{List}
 use Prim.Native.Nat.{ℕ, _≤_}
-use Rattle.answers.specs.Answers.{told, filled}
+use Rattle.answers.specs.Answers.{filled}
 use Rattle.answers.specs.declared.Filled.{Filled}
 use Rattle.answers.specs.declared.Filled.the-variants.{Done as FilledDone, Refused as FilledRefused}
 use Rattle.answers.specs.declared.Refusal.{Refusal}
-use Rattle.answers.specs.declared.Told.{Told}
 use Rattle.utf8.specs.Reading.{readAs, Reads}
 use Rattle.utf8.specs.declared.read.Counted.{Counted}
 use Rattle.utf8.specs.declared.read.Read.{Read}
@@ -23,11 +22,9 @@ use Rattle.ranking.specs.Ranking.{orderNumber, ranked, RanksBytes}
 use Rattle.ranking.specs.declared.order.Order.{Order}
 use Rattle.ranking.specs.declared.order.Ranked.{Ranked}
 use Rattle.ranking.specs.declared.order.Ranked.the-variants.{Stands, Refused as RankRefused}
-use Rattle.pulphopper.specs.Replies.{refusedAnswer, countedAnswer, plainAnswer, orderAnswer, Mends, NamesForC, ReadsNameForC, RanksForC}
-use Rattle.pulphopper.specs.declared.Answer.{Answer}
-
-pub refused-is : (r : Refusal) {t : Told} → t ≡ told r → record { refusal = t .number; count = 0; value = t .place } ≡ refusedAnswer r
-refused-is r e = rw e
+use Rattle.pulphopper_answer.specs.Refusals.{refusedAnswer}
+use Rattle.pulphopper_answer.specs.declared.Answer.{Answer}
+use Rattle.pulphopper.specs.Replies.{countedAnswer, plainAnswer, orderAnswer, Mends, NamesForC, ReadsNameForC, RanksForC}
 
 module _ (text out : List ℕ) where
   -- a is what mending answered, and r what C is told

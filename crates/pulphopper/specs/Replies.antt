@@ -6,8 +6,6 @@ use Prim.Native.Nat.{ℕ}
 use lib.ListN.{length}
 use Rattle.answers.specs.Checks.{inOrder, takesBytes}
 use Rattle.answers.specs.Verdicts.{Verdict, done, refused, verdict, after, fits}
-use Rattle.answers.specs.Answers.{told}
-use Rattle.answers.specs.declared.Refusal.{Refusal}
 use Rattle.utf8.specs.Reading.{countedOf}
 use Rattle.utf8.specs.declared.read.Counted.{Counted}
 use Rattle.mending.specs.Mending.{mended}
@@ -15,11 +13,7 @@ use Rattle.names.specs.Names.{nameOf, named}
 use Rattle.names.specs.Naming.{noSyllable, noName, syllableOr}
 use Rattle.ranking.specs.Ranking.{orderNumber, rankBytes, takesTwoBytes}
 use Rattle.ranking.specs.declared.order.Order.{Order}
-use Rattle.pulphopper.specs.declared.Answer.{Answer}
-
--- a refusal: its number, its place, and count 0
-abbrev pub refusedAnswer : Refusal → Answer
-refusedAnswer r = record { refusal = told r .number; count = 0; value = told r .place }
+use Rattle.pulphopper_answer.specs.declared.Answer.{Answer}
 
 -- a verdict of a call that reads bytes: the value is a length, and the count that of the ill-formed subparts
 abbrev pub countedAnswer : Verdict Counted → Answer

@@ -1,32 +1,13 @@
 // Pulphopper's calls for C: include/pulphopper.h declares and documents them.
 // Only the answers' form is made here; the work is that of the crates below.
 use answers::Filled;
-use answers::Refusal;
 use names::named::Named;
+use pulphopper_answer::Answer;
 use ranking::order;
 use ranking::order::Ranked;
 use utf8::read::Read;
 ghost use mathlib.Core.Path.{_≡_};
-ghost use Rattle.pulphopper.specs.Replies.{refusedAnswer, Mends, NamesForC, ReadsNameForC, RanksForC};
-
-// The answer of every call. A refusal is its number, and value its place; 0 is none.
-#[repr(C)]
-pub struct Answer {
-    pub refusal: u32,
-    pub count: u32,
-    pub value: u64,
-}
-
-fn refused(refusal: Refusal) -> Answer
-    ensures { λ r. ⌜ r ≡ refusedAnswer refusal ⌝ }
-{
-    let told = answers_told::tell(refusal);
-    Answer {
-        refusal: told.number,
-        count: 0,
-        value: told.place as u64,
-    }
-}
+ghost use Rattle.pulphopper.specs.Replies.{Mends, NamesForC, ReadsNameForC, RanksForC};
 
 // Mends a text of bytes: value is the bytes written, count the ill-formed subparts.
 #[no_mangle]
@@ -40,7 +21,7 @@ pub extern "C" fn pulphopper_mend(text: &[u8], out: &mut [u8]) -> Answer
             count: counted.ills as u32,
             value: counted.length as u64,
         },
-        Read::Refused(refusal) => refused(refusal),
+        Read::Refused(refusal) => pulphopper_answer::refused(refusal),
     }
 }
 
@@ -56,7 +37,7 @@ pub extern "C" fn pulphopper_name(code: u32, out: &mut [u8]) -> Answer
             count: 0,
             value: length as u64,
         },
-        Filled::Refused(refusal) => refused(refusal),
+        Filled::Refused(refusal) => pulphopper_answer::refused(refusal),
     }
 }
 
@@ -72,7 +53,7 @@ pub extern "C" fn pulphopper_read_name(name: &[u8]) -> Answer
             count: 0,
             value: code as u64,
         },
-        Named::Refused(refusal) => refused(refusal),
+        Named::Refused(refusal) => pulphopper_answer::refused(refusal),
     }
 }
 
@@ -89,6 +70,6 @@ pub extern "C" fn pulphopper_rank(first: &[u8], second: &[u8]) -> Answer
             count: 0,
             value: order::number_of(order) as u64,
         },
-        Ranked::Refused(refusal) => refused(refusal),
+        Ranked::Refused(refusal) => pulphopper_answer::refused(refusal),
     }
 }
