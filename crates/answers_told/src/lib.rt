@@ -1,5 +1,5 @@
 // Crate answers_told: a refusal as its number and place, and as the line that a program prints (document 01, 'Refusal numbers', 'Programs').
-// Not here: the refusals, and when one is given (crate answers).
+// Not here: the refusals (crate answers), and when one is given (crate answers_checks and the crates above).
 use answers::Refusal;
 use answers::Told;
 ghost use mathlib.Core.Path.{_≡_};

@@ -104,7 +104,7 @@ fn gathered_checked(text: &[u32], out: &mut [u32]) -> Filled
 pub fn gathered_form(text: &[u32], out: &mut [u32]) -> Filled
     ensures { λ r. ⌜ Makes gathered (now (text .entry)) (now (out .entry)) r (now (out .exit)) ⌝ }
 {
-    let checked = answers::check_text(text);
+    let checked = answers_checks::check_text(text);
     match checked {
         Checked::Refused(refusal) => Filled::Refused(refusal),
         Checked::Passed => gathered_checked(text, out),

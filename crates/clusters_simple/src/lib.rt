@@ -134,7 +134,7 @@ fn simple_checked(text: &[u32], out: &mut [u32]) -> Filled
 pub fn simple_form(text: &[u32], out: &mut [u32]) -> Filled
     ensures { λ r. ⌜ Makes simple (now (text .entry)) (now (out .entry)) r (now (out .exit)) ⌝ }
 {
-    let checked = answers::check_text(text);
+    let checked = answers_checks::check_text(text);
     match checked {
         Checked::Refused(refusal) => Filled::Refused(refusal),
         Checked::Passed => simple_checked(text, out),

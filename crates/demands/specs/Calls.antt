@@ -86,21 +86,21 @@ Tell = (refusal : Refusal) (r : Told) → r ≡ told refusal → Answers (told r
 abbrev pub RefusalLine : Type 0
 RefusalLine = (refusal : Refusal) (r : List ℕ) → 10 ≡ length r → r ≡ refusedLine refusal → Answers (refusedLine refusal) r
 
--- `answers::is_bad`
+-- `answers_checks::is_bad`
 abbrev pub IsBad : Type 0
 IsBad = (code : ℕ) (r : Bool) → r ≡ bad code → Answers (bad code) r
 
--- `answers::first_bad`
+-- `answers_checks::first_bad`
 abbrev pub FirstBad : Type 0
 FirstBad = (text : List ℕ) (r : ℕ) → r ≡ firstBad text → Answers (firstBad text) r
 
--- `answers::check_text`: 1, 2
+-- `answers_checks::check_text`: 1, 2
 abbrev pub CheckText : Type 0
 CheckText =
     (text : List ℕ) (r : Checked) → checked r ≡ takesText text
     → Demand1 {A = ℕ} (overLimit 16384 (length text) ∷ badCodePoint text ∷ []) tt [] [] (asVerdict (checked r)) []
 
--- `answers::check_bytes`: 1
+-- `answers_checks::check_bytes`: 1
 abbrev pub CheckBytes : Type 0
 CheckBytes =
     (bytes : List ℕ) (r : Checked) → checked r ≡ takesBytes bytes

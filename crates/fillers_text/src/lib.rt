@@ -86,7 +86,7 @@ fn turn_checked(text: &[u32], out: &mut [u32]) -> Filled
 pub fn turn(text: &[u32], out: &mut [u32]) -> Filled
     ensures { λ r. ⌜ Makes turned (now (text .entry)) (now (out .entry)) r (now (out .exit)) ⌝ }
 {
-    let checked = answers::check_text(text);
+    let checked = answers_checks::check_text(text);
     match checked {
         Checked::Refused(refusal) => Filled::Refused(refusal),
         Checked::Passed => turn_checked(text, out),

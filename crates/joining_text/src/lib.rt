@@ -93,7 +93,7 @@ fn join_checked(text: &[u32], out: &mut [u32]) -> Filled
 pub fn join(text: &[u32], out: &mut [u32]) -> Filled
     ensures { λ r. ⌜ Makes join (now (text .entry)) (now (out .entry)) r (now (out .exit)) ⌝ }
 {
-    let checked = answers::check_text(text);
+    let checked = answers_checks::check_text(text);
     match checked {
         Checked::Refused(refusal) => Filled::Refused(refusal),
         Checked::Passed => join_checked(text, out),

@@ -52,7 +52,7 @@ fn check_places(image: &[u8], number: usize, label: &[u8]) -> Checked
     if image::MOST < image.len() {
         return Checked::Refused(Refusal::OverLimit(image::MOST));
     }
-    let checked = answers::check_bytes(label);
+    let checked = answers_checks::check_bytes(label);
     match checked {
         Checked::Refused(refusal) => Checked::Refused(refusal),
         Checked::Passed => image::check_number(image, number),

@@ -105,7 +105,7 @@ fn full_parts_checked(text: &[u32], out: &mut [u32]) -> Filled
 pub fn full_parts(text: &[u32], out: &mut [u32]) -> Filled
     ensures { λ r. ⌜ Makes fullParts (now (text .entry)) (now (out .entry)) r (now (out .exit)) ⌝ }
 {
-    let checked = answers::check_text(text);
+    let checked = answers_checks::check_text(text);
     match checked {
         Checked::Refused(refusal) => Filled::Refused(refusal),
         Checked::Passed => full_parts_checked(text, out),

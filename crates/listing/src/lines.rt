@@ -101,7 +101,7 @@ fn list_checked(text: &[u8], out: &mut [u8]) -> Filled
 pub fn list(text: &[u8], out: &mut [u8]) -> Filled
     ensures { λ r. ⌜ Lists (now (text .entry)) (now (out .entry)) r (now (out .exit)) ⌝ }
 {
-    let checked = answers::check_bytes(text);
+    let checked = answers_checks::check_bytes(text);
     match checked {
         Checked::Refused(refusal) => Filled::Refused(refusal),
         Checked::Passed => list_checked(text, out),

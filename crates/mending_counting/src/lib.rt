@@ -52,7 +52,7 @@ fn count_advance(text: &[u8], s: Count) -> Count
 pub fn mended_count(text: &[u8]) -> usize
     ensures { λ r. ⌜ (length (now (text .entry)) ≤ 16384 → r ≡ length (mended (now (text .entry)))) ⌝ }
 {
-    if answers::LIMIT < text.len() {
+    if answers_checks::LIMIT < text.len() {
         return 0;
     }
     let mut s = Count { read: 0, length: 0 };

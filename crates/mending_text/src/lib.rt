@@ -161,7 +161,7 @@ fn mend_checked(text: &[u8], out: &mut [u8]) -> Read
 pub fn mend(text: &[u8], out: &mut [u8]) -> Read
     ensures { λ r. ⌜ Reads mended (now (text .entry)) (now (out .entry)) r (now (out .exit)) ⌝ }
 {
-    let checked = answers::check_bytes(text);
+    let checked = answers_checks::check_bytes(text);
     match checked {
         Checked::Refused(refusal) => Read::Refused(refusal),
         Checked::Passed => mend_checked(text, out),

@@ -85,7 +85,7 @@ fn read_checked(name: &[u8]) -> Named
 pub fn read_name(name: &[u8]) -> Named
     ensures { λ r. ⌜ ReadsName (now (name .entry)) r ⌝ }
 {
-    let checked = answers::check_bytes(name);
+    let checked = answers_checks::check_bytes(name);
     match checked {
         Checked::Refused(refusal) => Named::Refused(refusal),
         Checked::Passed => read_checked(name),

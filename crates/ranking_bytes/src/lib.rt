@@ -112,10 +112,10 @@ fn rank_checked(first: &[u8], second: &[u8]) -> Order
 fn check_two(first: &[u8], second: &[u8]) -> Checked
     ensures { λ r. ⌜ checked r ≡ takesTwoBytes (now (first .entry)) (now (second .entry)) ⌝ }
 {
-    let checked = answers::check_bytes(first);
+    let checked = answers_checks::check_bytes(first);
     match checked {
         Checked::Refused(refusal) => Checked::Refused(refusal),
-        Checked::Passed => answers::check_bytes(second),
+        Checked::Passed => answers_checks::check_bytes(second),
     }
 }
 

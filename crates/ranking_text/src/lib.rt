@@ -76,17 +76,17 @@ fn rank_checked(first: &[u32], second: &[u32]) -> Order
 fn check_two(first: &[u32], second: &[u32]) -> Checked
     ensures { λ r. ⌜ checked r ≡ takesTwo (now (first .entry)) (now (second .entry)) ⌝ }
 {
-    if answers::LIMIT < first.len() {
-        return Checked::Refused(Refusal::OverLimit(answers::LIMIT));
+    if answers_checks::LIMIT < first.len() {
+        return Checked::Refused(Refusal::OverLimit(answers_checks::LIMIT));
     }
-    if answers::LIMIT < second.len() {
-        return Checked::Refused(Refusal::OverLimit(answers::LIMIT));
+    if answers_checks::LIMIT < second.len() {
+        return Checked::Refused(Refusal::OverLimit(answers_checks::LIMIT));
     }
-    let bad = answers::first_bad(first);
+    let bad = answers_checks::first_bad(first);
     if bad < first.len() {
         return Checked::Refused(Refusal::BadCodePoint(bad));
     }
-    let other = answers::first_bad(second);
+    let other = answers_checks::first_bad(second);
     if other < second.len() {
         return Checked::Refused(Refusal::BadCodePoint(other));
     }

@@ -77,7 +77,7 @@ fn read_checked(text: &[u8], out: &mut [u32]) -> Read
 pub fn read_text(text: &[u8], out: &mut [u32]) -> Read
     ensures { λ r. ⌜ Reads readText (now (text .entry)) (now (out .entry)) r (now (out .exit)) ⌝ }
 {
-    let checked = answers::check_bytes(text);
+    let checked = answers_checks::check_bytes(text);
     match checked {
         Checked::Refused(refusal) => Read::Refused(refusal),
         Checked::Passed => read_checked(text, out),

@@ -72,7 +72,7 @@ fn write_checked(text: &[u32], out: &mut [u8]) -> Filled
 pub fn write_text(text: &[u32], out: &mut [u8]) -> Filled
     ensures { λ r. ⌜ Makes writeText (now (text .entry)) (now (out .entry)) r (now (out .exit)) ⌝ }
 {
-    let checked = answers::check_text(text);
+    let checked = answers_checks::check_text(text);
     match checked {
         Checked::Refused(refusal) => Filled::Refused(refusal),
         Checked::Passed => write_checked(text, out),

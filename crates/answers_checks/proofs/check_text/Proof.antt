@@ -1,10 +1,10 @@
--- `answers::check_text` meets its contract: the limit, then the first bad code point.
+-- `answers_checks::check_text` meets its contract: the limit, then the first bad code point.
 -- Assumes nothing.
 use Rattle.answers.proofs.Checks.{text-over, text-bad, text-taken}
 use mathlib.Core.Path.{sym}
 use borrow.Author.Needs.{needs}
-use Rattle.answers.proofs.check_text.Statement.{statement}
-use Rattle.answers.proofs.check_text.Tie as tie
+use Rattle.answers_checks.proofs.check_text.Statement.{statement}
+use Rattle.answers_checks.proofs.check_text.Tie as tie
 
 returns : tie.Need-returns
 returns c = sym (text-over _ (c .if1 .taken))

@@ -1,9 +1,9 @@
--- `answers::check_bytes` meets its contract: the limit alone.
+-- `answers_checks::check_bytes` meets its contract: the limit alone.
 -- Assumes nothing.
 use mathlib.Core.Path.{sym}
 use Rattle.answers.proofs.Checks.{bytes-over, bytes-taken}
-use Rattle.answers.proofs.check_bytes.Statement.{statement}
-use Rattle.answers.proofs.check_bytes.Tie as tie
+use Rattle.answers_checks.proofs.check_bytes.Statement.{statement}
+use Rattle.answers_checks.proofs.check_bytes.Tie as tie
 
 returns : tie.Need-returns
 returns c = sym (bytes-over _ (c .if1 .taken))
