@@ -24,7 +24,7 @@ pub fn fresh(lent: &mut [u8]) -> Reply {
 }
 
 pub fn record(image: &[u8], number: usize, lent: &mut [u8]) -> Reply {
-    let answer = labels_image::read_record(image, number, lent);
+    let answer = labels_reading::read_record(image, number, lent);
     match answer {
         Found::Record(entry) => reply::found(entry.length, entry.object, entry.berth),
         Found::Refused(refusal) => reply::refused(refusal),

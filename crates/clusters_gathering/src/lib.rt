@@ -72,7 +72,7 @@ fn row_between(row: Row, table: &[u16], span: Span) -> u32
 {
     let mut code = span.low;
     while code < span.high {
-        if same_row(clusters_table::row_at(table, code), row) {
+        if same_row(clusters_row::row_at(table, code), row) {
             return code;
         }
         code += 1;

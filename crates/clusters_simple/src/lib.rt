@@ -38,11 +38,11 @@ fn put_simple(code: u32, table: &[u16], out: &mut [u32], at: usize, depth: u32) 
     ensures { λ r. ⌜ Wrote (now (out .entry)) at (simpleBy (now (table .entry)) depth code) r (now (out .exit)) ⌝ }
 {
     if depth == 0 {
-        return put_row(clusters_table::row_at(table, code), out, at);
+        return put_row(clusters_row::row_at(table, code), out, at);
     }
     let parts = letters_step::parts_of(code);
     match parts {
-        Parts::One(only) => put_row(clusters_table::row_at(table, only), out, at),
+        Parts::One(only) => put_row(clusters_row::row_at(table, only), out, at),
         Parts::Two(first, second) => {
             let next = put_simple(first, table, out, at, depth - 1);
             put_simple(second, table, out, next, depth - 1)

@@ -1,9 +1,8 @@
 // Crate clusters_table: the table of clusters: a row of three numbers for each code from 1100 to 11FF (document 01, 'Simple letters and clusters').
-// Not here: its definition (crate clusters), and what is done with a row (crates clusters_simple, clusters_gathering).
-use clusters::table::Row;
+// Not here: its definition (crate clusters), and the row of a number (crate clusters_row).
 ghost use mathlib.Core.Path.{_≡_};
 ghost use lib.ListN.{length};
-ghost use Rattle.clusters.specs.Rows.{Rows, rowAt};
+ghost use Rattle.clusters.specs.Rows.{Rows};
 
 // Of a cluster its letters, of any other code itself; 0 where there are fewer. Laid out by hand, a
 // row a line: `rt fmt` would give each number a line.
@@ -273,29 +272,4 @@ pub fn table() -> [u16; 768]
     ensures { λ r. ⌜ Rows r ⌝ }
 {
     TABLE
-}
-
-// The row of a code; one that the table does not have is alone.
-pub fn row_at(table: &[u16], code: u32) -> Row
-    ensures { λ r. ⌜ r ≡ rowAt (now (table .entry)) code ⌝ }
-{
-    let alone = Row {
-        first: code,
-        second: 0,
-        third: 0,
-    };
-    if table.len() < 768 {
-        return alone;
-    }
-    match code {
-        0x1100..=0x11FF => {
-            let at = 3 * (code - 0x1100) as usize;
-            Row {
-                first: table[at] as u32,
-                second: table[at + 1] as u32,
-                third: table[at + 2] as u32,
-            }
-        }
-        _ => alone,
-    }
 }

@@ -183,7 +183,7 @@ ReadAt = (text : List ℕ) (at : ℕ) (r : Taken) → r ≡ takenFrom (pieces ki
 abbrev pub ReadText : Type 0
 ReadText = (text out out′ : List ℕ) (r : Read) → Reads readText text out r out′ → OfBytes readText text out r out′
 
--- `utf8_put::size_of`
+-- `utf8_size::size_of`
 abbrev pub SizeOf : Type 0
 SizeOf = (code : ℕ) (r : ℕ) → r ≡ length (bytesOf code) → Answers (length (bytesOf code)) r
 
@@ -282,7 +282,7 @@ RankBytes =
 abbrev pub Fresh : Type 0
 Fresh = (r : List ℕ) → 96 ≡ length r → r ≡ freshRecord → Answers freshRecord r
 
--- `labels_image::read_record`: 1, 6, 7, 3
+-- `labels_reading::read_record`: 1, 6, 7, 3
 abbrev pub ReadRecord : Type 0
 ReadRecord =
     (image : List ℕ) (number : ℕ) (out out′ : List ℕ) (r : Found) → Finds image number out r out′

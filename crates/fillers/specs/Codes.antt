@@ -1,4 +1,4 @@
--- The groups as the code has them: a number for none, a table of numbers, the syllable of a group or 0. What the functions of fillers_group and fillers_text ask and promise.
+-- The groups as the code has them: a number for none, a table of numbers, the syllable of a group or 0. What the functions of fillers_pairs, fillers_group and fillers_text ask and promise.
 -- Not here: the groups (specs/Groups). Assumes nothing.
 use mathlib.Core.Path.{_≡_}
 use mathlib.Core.Option.{Option, none, some}

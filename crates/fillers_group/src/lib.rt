@@ -1,5 +1,5 @@
 // Crate fillers_group: the filler group that begins at an index of a text, and its syllable (document 01, 'Filler groups').
-// Not here: the definitions (crate fillers), a whole text turned (crate fillers_text).
+// Not here: the definitions (crate fillers), the table of pairs (crate fillers_pairs), a whole text turned (crate fillers_text).
 ghost use mathlib.Core.Path.{_≡_};
 ghost use Prim.Native.Nat.{_<_};
 ghost use lib.ListN.{length, drop};
@@ -8,23 +8,6 @@ ghost use Rattle.fillers.specs.Codes.{orNone, Pairs, groupAt, syllableIn};
 
 // What stands for none, in the table and in what is read from it.
 const NONE: u32 = 99;
-
-// I and F of 3131 to 314E, in order; ten pairs a line, by hand: `rt fmt` would give each number a
-// line.
-const PAIRS: [u8; 60] = [
-    0, 1, 1, 2, 99, 3, 2, 4, 99, 5, 99, 6, 3, 7, 4, 99, 5, 8, 99, 9,
-    99, 10, 99, 11, 99, 12, 99, 13, 99, 14, 99, 15, 6, 16, 7, 17, 8, 99, 99, 18,
-    9, 19, 10, 20, 11, 21, 12, 22, 13, 99, 14, 23, 15, 24, 16, 25, 17, 26, 18, 27,
-];
-
-// The table. A call takes it once and lends it on, since each use of the constant puts the whole
-// table on the stack.
-pub fn pairs() -> [u8; 60]
-    ensures { λ r. ⌜ 60 ≡ length r ⌝ }
-    ensures { λ r. ⌜ Pairs r ⌝ }
-{
-    PAIRS
-}
 
 // I of an initial, or none.
 fn initial_of(code: u32, table: &[u8]) -> u32

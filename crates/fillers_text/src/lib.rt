@@ -1,5 +1,5 @@
 // Crate fillers_text: turning the filler groups of a text into a lent buffer (document 01, 'Filler groups').
-// Not here: the definitions (crate fillers), the group at an index (crate fillers_group).
+// Not here: the definitions (crate fillers), the table (crate fillers_pairs), the group at an index (crate fillers_group).
 use answers::Checked;
 use answers::Filled;
 use answers::Refusal;
@@ -74,7 +74,7 @@ fn turn_checked(text: &[u32], out: &mut [u32]) -> Filled
     requires { ⌜ takesText (now text) ≡ passes ⌝ }
     ensures { λ r. ⌜ Makes turned (now (text .entry)) (now (out .entry)) r (now (out .exit)) ⌝ }
 {
-    let table = fillers_group::pairs();
+    let table = fillers_pairs::pairs();
     let needed = turn_lacking(text, &table, out.len());
     if needed != 0 {
         return Filled::Refused(Refusal::NoRoom(needed));

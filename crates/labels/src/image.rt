@@ -1,5 +1,5 @@
 // An image: the most bytes of one, the answers about it, and whether it has a record.
-// Not here: reading (crate labels_image), writing (crate labels_writing), a record by itself (layout).
+// Not here: reading (crates labels_reading, labels_image), writing (crate labels_writing), a record by itself (layout).
 use crate::layout::Entry;
 use answers::Checked;
 use answers::Refusal;

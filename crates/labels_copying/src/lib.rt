@@ -1,5 +1,5 @@
 // Crate labels_copying: bytes copied to the front of others.
-// Not here: what they are (crates labels_image, labels_storing), and what a copy is (crate labels).
+// Not here: what they are (crates labels_reading, labels_storing), and what a copy is (crate labels).
 ghost use mathlib.Core.Path.{_≡_};
 ghost use Rattle.labels.specs.Steps.{copied};
 

@@ -1,5 +1,5 @@
 // Crate labels_fault: the first byte that breaks the layout of a record of an image, and the checks before a record is read.
-// Not here: reading a record or a whole image (crate labels_image), what a record says (crate labels_record).
+// Not here: reading a record (crate labels_reading) or a whole image (labels_image), what a record says (crate labels_record).
 use answers::Checked;
 use answers::Refusal;
 use labels::image;

@@ -1,5 +1,5 @@
 // Crate labels_writing: writing a record into its own place in the middle of an image: the 96 bytes of that place alone change.
-// Not here: the record's bytes and its place (crate labels_storing), reading (crate labels_image), what both share (crate labels).
+// Not here: the record's bytes and its place (crate labels_storing), reading (crate labels_reading), what both share (crate labels).
 use answers::Checked;
 use answers::Refusal;
 use labels::image;

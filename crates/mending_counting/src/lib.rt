@@ -15,7 +15,7 @@ fn count_place(s: Count, taken: Taken) -> Count
 {
     Count {
         read: s.read + taken.size,
-        length: s.length + utf8_put::size_of(taken.code),
+        length: s.length + utf8_size::size_of(taken.code),
     }
 }
 

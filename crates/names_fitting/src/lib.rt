@@ -1,11 +1,10 @@
-// Crate names_fitting: how a name begins, goes on and ends with the strings of names (document 01, 'Names').
-// Not here: which strings are tried, and the syllable (crate names_reading), the strings (crate names).
+// Crate names_fitting: how a name goes on and ends with the strings of names (document 01, 'Names').
+// Not here: how it begins (crate names_prefix), which strings are tried, and the syllable (crate names_reading), the strings (crate names).
 use names::strings::Part;
 ghost use mathlib.Core.Path.{_≡_};
 ghost use Prim.Native.Nat.{_≤_};
 ghost use lib.ListN.{drop};
 ghost use Rattle.laws.specs.Strings.{begins, same};
-ghost use Rattle.names.specs.Names.{prefix};
 ghost use Rattle.names.specs.Naming.{stringOf, vowelFirst, fitting};
 
 // Does what is left of a name go on with a string?
@@ -65,22 +64,4 @@ pub fn fits(rest: &[u8], part: Part, vowel: bool) -> bool
         return false;
     }
     vowel_at(rest, part.length) == vowel
-}
-
-// Does the name begin with "HANGUL SYLLABLE "?
-pub fn begins_so(name: &[u8]) -> bool
-    ensures { λ r. ⌜ r ≡ begins prefix (now (name .entry)) ⌝ }
-{
-    let prefix = b"HANGUL SYLLABLE ";
-    if name.len() < 16 {
-        return false;
-    }
-    let mut at = 0;
-    while at < 16 {
-        if name[at] != prefix[at] {
-            return false;
-        }
-        at += 1;
-    }
-    true
 }

@@ -1,5 +1,5 @@
 // Reading a name: the nested search over initials, peaks and finals (document 01, 'Names').
-// Not here: whether a string fits (crate names_fitting), the definitions and the strings (crate names), naming (crate names_naming).
+// Not here: how a name begins (crate names_prefix), whether a string fits (crate names_fitting), the definitions and the strings (crate names), naming (crate names_naming).
 use answers::Checked;
 use answers::Refusal;
 use names::named::Found;
@@ -30,7 +30,7 @@ fn search(name: &[u8], initials: &[u8], peaks: &[u8], finals: &[u8]) -> Found
     requires { ⌜ FinalRows (now finals) ⌝ }
     ensures { λ r. ⌜ FoundIs (now (name .entry)) r ⌝ }
 {
-    let mut i = start(names_fitting::begins_so(name), 19);
+    let mut i = start(names_prefix::begins_so(name), 19);
     let found = 'search: loop {
         if 19 <= i {
             break 'search Found::Nothing;

@@ -1,5 +1,5 @@
 // Crate sorting_line: a number's line, as the ranker prints it: its decimal digits and a line feed.
-// Not here: the lines of an image's order (crate sorting_lines).
+// Not here: how long it is (crate sorting_size), the lines of an image's order (crate sorting_lines).
 ghost use mathlib.Core.Path.{_≡_};
 ghost use Prim.Native.Nat.{_≤_, _<_};
 ghost use lib.ListN.{length};
@@ -11,17 +11,6 @@ fn digit(number: u32) -> u8
     ensures { λ r. ⌜ r ≡ digitOf number ⌝ }
 {
     (0x30 + number % 10) as u8
-}
-
-// How long a number's line is.
-pub fn line_size(number: u32) -> usize
-    ensures { λ r. ⌜ (number < 1000 → r ≡ length (lineOf number)) ⌝ }
-{
-    match number {
-        0..=9 => 2,
-        10..=99 => 3,
-        _ => 4,
-    }
 }
 
 fn put_one(number: u32, out: &mut [u8], at: usize) -> usize
@@ -70,7 +59,7 @@ pub fn put(number: u32, out: &mut [u8], at: usize) -> usize
     if out.len() < at {
         return at;
     }
-    if out.len() - at < line_size(number) {
+    if out.len() - at < sorting_size::line_size(number) {
         return at;
     }
     if number < 10 {

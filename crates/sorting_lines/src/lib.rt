@@ -1,5 +1,5 @@
 // Crate sorting_lines: the lines that the ranker prints: an image's record numbers in their order, one a line.
-// Not here: the order (crate sorting_order), one line (crate sorting_line), reading and writing of files (the program).
+// Not here: the order (crate sorting_order), one line (crates sorting_size and sorting_line), reading and writing of files (the program).
 use answers::Refusal;
 use labels::image::Judged;
 ghost use mathlib.Core.Path.{_≡_};
@@ -22,7 +22,7 @@ fn lines_count(numbers: &[u32], count: usize) -> usize
     let mut size: usize = 0;
     let mut read = 0;
     while read < count {
-        size += sorting_line::line_size(numbers[read]);
+        size += sorting_size::line_size(numbers[read]);
         read += 1;
     }
     size

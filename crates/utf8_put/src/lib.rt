@@ -1,22 +1,10 @@
-// Writing one code point as UTF-8: how many bytes it takes, and the bytes (document 01, 'Bytes').
-// Not here: a whole text (crate utf8_write), reading (crates utf8_at and utf8_read).
+// Writing one code point as UTF-8, at any index (document 01, 'Bytes').
+// Not here: how many bytes it takes (crate utf8_size), a whole text (crate utf8_write), reading (crates utf8_at and utf8_read).
 ghost use mathlib.Core.Path.{_≡_};
 ghost use Prim.Native.Nat.{_≤_, _<_};
 ghost use lib.ListN.{length};
 ghost use Rattle.laws.specs.Writing.{Room, Wrote};
 ghost use Rattle.utf8.specs.Utf8.{bytesOf, fitting};
-
-// How many bytes a code point takes.
-pub fn size_of(code: u32) -> usize
-    ensures { λ r. ⌜ r ≡ length (bytesOf code) ⌝ }
-{
-    match code {
-        0..=0x7F => 1,
-        0x80..=0x7FF => 2,
-        0x800..=0xFFFF => 3,
-        _ => 4,
-    }
-}
 
 fn put_one(code: u32, out: &mut [u8], at: usize) -> usize
     requires { ⌜ code < 0x80 ⌝ }
@@ -89,7 +77,7 @@ pub fn put_at(code: u32, out: &mut [u8], at: usize) -> usize
     if out.len() <= at {
         return at;
     }
-    if out.len() - at < size_of(code) {
+    if out.len() - at < utf8_size::size_of(code) {
         return at;
     }
     if 0x10FFFF < code {

@@ -1,5 +1,5 @@
 // Writing a text as UTF-8 into a lent buffer (document 01, 'Bytes').
-// Not here: one code point and its bytes (crate utf8_put), reading (crates utf8_at and utf8_read).
+// Not here: one code point and its bytes (crates utf8_size and utf8_put), reading (crates utf8_at and utf8_read).
 use answers::Checked;
 use answers::Filled;
 use answers::Refusal;
@@ -19,7 +19,7 @@ fn write_count(text: &[u32]) -> usize
     let mut count: usize = 0;
     let mut i = 0;
     while i < text.len() {
-        count += utf8_put::size_of(text[i]);
+        count += utf8_size::size_of(text[i]);
         i += 1;
     }
     count

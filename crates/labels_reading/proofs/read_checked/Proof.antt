@@ -1,10 +1,10 @@
--- `labels_image::read_checked` meets its contract: the record that was taken stands in the image, and its label is copied where there is room.
+-- `labels_reading::read_checked` meets its contract: the record that was taken stands in the image, and its label is copied where there is room.
 -- Assumes nothing.
 use Rattle.labels.proofs.Finding.{taken-inside, size-short, finds-lacking, finds-done}
 use native.Mathlib.Omega.{arith}
 use borrow.Author.Needs.{needs}
-use Rattle.labels_image.proofs.read_checked.Statement.{statement}
-use Rattle.labels_image.proofs.read_checked.Tie as tie
+use Rattle.labels_reading.proofs.read_checked.Statement.{statement}
+use Rattle.labels_reading.proofs.read_checked.Tie as tie
 
 entry-at-requires : tie.Need-entry-at-requires
 entry-at-requires c κs = search needs

@@ -1,10 +1,10 @@
--- `labels_image::read_record` meets its contract: the checks refuse, or the rest is done.
+-- `labels_reading::read_record` meets its contract: the checks refuse, or the rest is done.
 -- Assumes nothing.
 use Rattle.answers.proofs.Verdicts.{checks-passed}
 use Rattle.labels.proofs.Finding.{finds-refused}
 use borrow.Author.Needs.{needs}
-use Rattle.labels_image.proofs.read_record.Statement.{statement}
-use Rattle.labels_image.proofs.read_record.Tie as tie
+use Rattle.labels_reading.proofs.read_record.Statement.{statement}
+use Rattle.labels_reading.proofs.read_record.Tie as tie
 
 check-one-requires : tie.Need-check-one-requires
 check-one-requires c κs = search needs

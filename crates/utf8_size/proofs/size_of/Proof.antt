@@ -1,10 +1,10 @@
--- `utf8_put::size_of` meets its contract: each arm of the match knows the bounds of the code point.
+-- `utf8_size::size_of` meets its contract: each arm of the match knows the bounds of the code point.
 -- Assumes nothing.
 use Rattle.utf8.proofs.Writing.{long-one, long-two, long-three, long-four}
 use native.Mathlib.Omega.{arith}
 use borrow.Author.Needs.{needs}
-use Rattle.utf8_put.proofs.size_of.Statement.{statement}
-use Rattle.utf8_put.proofs.size_of.Tie as tie
+use Rattle.utf8_size.proofs.size_of.Statement.{statement}
+use Rattle.utf8_size.proofs.size_of.Tie as tie
 
 returns : tie.Need-returns
 returns c = long-one _ (omega arith)

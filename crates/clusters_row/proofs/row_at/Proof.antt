@@ -1,11 +1,11 @@
--- `clusters_table::row_at` meets its contract: a row of the table, or the code alone where the table is short or does not have it.
+-- `clusters_row::row_at` meets its contract: a row of the table, or the code alone where the table is short or does not have it.
 -- Assumes nothing.
 use Rattle.clusters.proofs.Rows.{row-read, row-short, row-below, row-above}
 use native.Mathlib.Omega.{arith}
 use Prim.Native.Nat.{_+_, _-_, _*_}
 use borrow.Author.Needs.{needs}
-use Rattle.clusters_table.proofs.row_at.Statement.{statement}
-use Rattle.clusters_table.proofs.row_at.Tie as tie
+use Rattle.clusters_row.proofs.row_at.Statement.{statement}
+use Rattle.clusters_row.proofs.row_at.Tie as tie
 
 returns : tie.Need-returns
 returns c = row-short _ _ (c .if1 .taken)

@@ -1,10 +1,10 @@
--- `fillers_group::pairs` meets its contract: its table has I and F of the pairs, by a computed test.
+-- `fillers_pairs::pairs` meets its contract: its table has I and F of the pairs, by a computed test.
 -- Assumes nothing.
 use mathlib.Core.Path.{refl}
 use Rattle.fillers.specs.Groups.{pairs}
 use Rattle.fillers.proofs.Table.{pairs-right}
-use Rattle.fillers_group.proofs.pairs.Statement.{statement}
-use Rattle.fillers_group.proofs.pairs.Tie as tie
+use Rattle.fillers_pairs.proofs.pairs.Statement.{statement}
+use Rattle.fillers_pairs.proofs.pairs.Tie as tie
 
 returns : tie.Need-returns
 unfolding pairs

@@ -1,11 +1,11 @@
--- `names_fitting::begins_so` meets its contract. The loop's invariant: the letters before `at` are the prefix's.
+-- `names_prefix::begins_so` meets its contract. The loop's invariant: the letters before `at` are the prefix's.
 -- Assumes nothing.
 use Prim.Native.Nat.{_-_}
 use Rattle.names.specs.Names.{prefix as bytes}
 use Rattle.names.proofs.Search.{PrefixTo, prefix-short, prefix-none, prefix-more, prefix-not, prefix-all}
 use borrow.Author.Needs.{needs}
-use Rattle.names_fitting.proofs.begins_so.Statement.{statement}
-use Rattle.names_fitting.proofs.begins_so.Tie as tie
+use Rattle.names_prefix.proofs.begins_so.Statement.{statement}
+use Rattle.names_prefix.proofs.begins_so.Tie as tie
 
 abbrev Inv-loop : tie.InvT-loop
 Inv-loop name prefix at₀ at = PrefixTo name at

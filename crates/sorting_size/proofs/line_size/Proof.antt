@@ -1,9 +1,9 @@
--- `sorting_line::line_size` meets its contract: the digits of a number, and the line feed.
+-- `sorting_size::line_size` meets its contract: the digits of a number, and the line feed.
 -- Assumes nothing.
 use native.Mathlib.Omega.{arith}
 use Rattle.sorting.proofs.Decimals.{long-one, long-two, long-three}
-use Rattle.sorting_line.proofs.line_size.Statement.{statement}
-use Rattle.sorting_line.proofs.line_size.Tie as tie
+use Rattle.sorting_size.proofs.line_size.Statement.{statement}
+use Rattle.sorting_size.proofs.line_size.Tie as tie
 
 returns : tie.Need-returns
 returns c = λ h. long-one _ (omega (arith, c .if1 .taken))
