@@ -1,7 +1,7 @@
 -- The loops over a text's characters. In order: what is listed from an index on is the character's line and then what is listed behind it
 -- (`listed-next`), and nothing at the end (`listed-end`); what the loop that writes keeps (`Writing`) and the one that counts (`Tallying`), with the laws
 -- of their turns.
--- Not here: what a character is (crate mending, proofs/Characters), a line (proofs/Writing). Assumes nothing.
+-- Not here: what a character is (crate mending, proofs/Characters), writing its line (crate listing_line). Assumes nothing.
 use mathlib.Core.Path.{_≡_, _∙_, ap}
 use mathlib.Core.List.{List, []}
 use Prim.Native.Nat.{ℕ, _+_, _≤_}
@@ -14,8 +14,10 @@ use Rattle.laws.proofs.Filling.{Piece, wrote-length, Filling, filling-none, fil
 use Rattle.laws.proofs.Filling.{Counting, counting-none, counting-fits, counting-more, counting-all}
 use Rattle.utf8.specs.declared.read.Taken.{Taken}
 use Rattle.mending.proofs.Characters.{Character}
-use Rattle.listing.specs.Listing.{lineOf, listed}
-use Rattle.listing.proofs.Bound.{line-most, listed-most}
+use Rattle.listing_line.specs.Line.{lineOf}
+use Rattle.listing_line.proofs.Bound.{line-most}
+use Rattle.listing.specs.Listing.{listed}
+use Rattle.listing.proofs.Bound.{listed-most}
 
 module _ (text : List ℕ) (at : ℕ) where
   pub listed-next : {t : Taken} → Character text at t → Piece (listed (drop at text)) (lineOf (t .code)) (listed (drop (at + t .size) text))
@@ -38,12 +40,15 @@ module _ (text : List ℕ) {out₀ : List ℕ} where
 
   module _ {out : List ℕ} {read written : ℕ} (w : Writing text out₀ out read written) where
     module _ (fits : length (listed text) ≤ length out₀) {t : Taken} (character : Character text read t) where
-      pub writing-room : Room out written (lineOf (t .code))
-      writing-room = filling-room fits (w .filling) (listed-next text read character)
+      line-room : Room out written (lineOf (t .code))
+      line-room = filling-room fits (w .filling) (listed-next text read character)
 
-      pub writing-more : {k : ℕ} {out′ : List ℕ} → Wrote out written (lineOf (t .code)) k out′ → Writing text out₀ out′ (read + t .size) k
-      writing-more l =
-          record { inside = character .goes .inside; filling = filling-more fits (w .filling) (listed-next text read character) l }
+      pub writing-more : {k : ℕ} {out′ : List ℕ} → (Room out written (lineOf (t .code)) → Wrote out written (lineOf (t .code)) k out′)
+          → Writing text out₀ out′ (read + t .size) k
+      writing-more put = record {
+        inside = character .goes .inside;
+        filling = filling-more fits (w .filling) (listed-next text read character) (put line-room);
+      }
 
     pub writing-all : length text ≤ read → Fronts (listed text) out₀ written out
     writing-all h = filling-all (w .filling) (listed-end text read h)
@@ -60,10 +65,11 @@ module _ (text : List ℕ) {line : List ℕ} where
   tallying-none e = record { inside = omega arith; place = e; counting = counting-none (listed text) }
 
   module _ {read counted : ℕ} (w : Tallying text line read counted) where
-    pub tallying-room : (c : ℕ) → Room line 0 (lineOf c)
-    tallying-room c = record { fits = omega (arith, w .place, line-most c) }
+    module _ {t : Taken} (character : Character text read t) {k : ℕ} {line′ : List ℕ}
+        (put : Room line 0 (lineOf (t .code)) → Wrote line 0 (lineOf (t .code)) k line′) where
+      wrote : Wrote line 0 (lineOf (t .code)) k line′
+      wrote = put (record { fits = omega (arith, w .place, line-most (t .code)) })
 
-    module _ {t : Taken} (character : Character text read t) {k : ℕ} {line′ : List ℕ} (wrote : Wrote line 0 (lineOf (t .code)) k line′) where
       length-is : k ≡ length (lineOf (t .code))
       length-is = omega (arith, wrote .behind)
 

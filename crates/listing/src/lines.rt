@@ -1,41 +1,14 @@
 // Listing the characters of a text of bytes into a lent buffer (document 01, 'Programs').
-// Not here: what a character is (crate mending_character), its code in hex (crate listing_hex), its name (crate names_naming).
+// Not here: what a character is (crate mending_character), its line (crate listing_line).
 use answers::Checked;
 use answers::Filled;
 use answers::Refusal;
 ghost use mathlib.Core.Path.{_≡_};
 ghost use Prim.Native.Nat.{_≤_};
 ghost use lib.ListN.{length};
-ghost use Rattle.laws.specs.Writing.{Room, Wrote, Fronts};
+ghost use Rattle.laws.specs.Writing.{Fronts};
 ghost use Rattle.answers.specs.Checks.{lacking, passes, takesBytes};
-ghost use Rattle.listing.specs.Listing.{nameOrNone, lineOf, listed, Lists};
-
-// Writes the name of a syllable, and - for any other character.
-fn put_name(code: u32, out: &mut [u8], at: usize) -> usize
-    requires { ⌜ Room (now out) at (nameOrNone code) ⌝ }
-    ensures { λ r. ⌜ Wrote (now (out .entry)) at (nameOrNone code) r (now (out .exit)) ⌝ }
-{
-    let named = names_naming::name(code, &mut out[at..]);
-    match named {
-        Filled::Done(length) => at + length,
-        Filled::Refused(refusal) => {
-            out[at] = b'-';
-            at + 1
-        }
-    }
-}
-
-// Writes a character's line.
-fn put_line(code: u32, out: &mut [u8], at: usize) -> usize
-    requires { ⌜ Room (now out) at (lineOf code) ⌝ }
-    ensures { λ r. ⌜ Wrote (now (out .entry)) at (lineOf code) r (now (out .exit)) ⌝ }
-{
-    let behind_code = listing_hex::put_hex(code, out, at);
-    out[behind_code] = b' ';
-    let behind_name = put_name(code, out, behind_code + 1);
-    out[behind_name] = b'\n';
-    behind_name + 1
-}
+ghost use Rattle.listing.specs.Listing.{listed, Lists};
 
 // Writes the list to the front of `out`, which has room for it.
 fn list_into(text: &[u8], out: &mut [u8]) -> usize
@@ -47,7 +20,7 @@ fn list_into(text: &[u8], out: &mut [u8]) -> usize
     let mut written = 0;
     while read < text.len() {
         let taken = mending_character::character_at(text, read);
-        written = put_line(taken.code, out, written);
+        written = listing_line::put_line(taken.code, out, written);
         read += taken.size;
     }
     written
@@ -63,7 +36,7 @@ fn listed_count(text: &[u8]) -> usize
     let mut length = 0;
     while read < text.len() {
         let taken = mending_character::character_at(text, read);
-        length += put_line(taken.code, &mut line, 0);
+        length += listing_line::put_line(taken.code, &mut line, 0);
         read += taken.size;
     }
     length

@@ -1,5 +1,5 @@
 -- A code in capital hex of four to six digits: document 01, 'Programs', the lister.
--- Not here: the line that it stands in (crate listing). Assumes nothing.
+-- Not here: the line that it stands in (crate listing_line). Assumes nothing.
 use mathlib.Core.Bool.{cond}
 use mathlib.Core.List.{List, [], _∷_}
 use Prim.Native.Nat.{ℕ, _+_, _/_, _%_}

@@ -1,5 +1,5 @@
 // Crate listing_hex: a code in capital hex of four to six digits, as the lister prints it (document 01, 'Programs').
-// Not here: the rest of a character's line (crate listing).
+// Not here: the rest of a character's line (crate listing_line).
 ghost use mathlib.Core.Path.{_≡_};
 ghost use Prim.Native.Nat.{_<_};
 ghost use lib.ListN.{length};

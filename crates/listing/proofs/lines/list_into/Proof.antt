@@ -5,7 +5,7 @@ use native.Mathlib.Omega.{arith}
 use lib.ListN.{length}
 use Rattle.laws.proofs.Filling.{filling-length}
 use Rattle.mending.proofs.Characters.{character-next}
-use Rattle.listing.proofs.Turns.{Writing, writing-none, writing-room, writing-more, writing-all}
+use Rattle.listing.proofs.Turns.{Writing, writing-none, writing-more, writing-all}
 use borrow.Author.Needs.{needs}
 use Rattle.listing.proofs.lines.list_into.Statement.{statement}
 use Rattle.listing.proofs.lines.list_into.Tie as tie
@@ -23,10 +23,7 @@ character-at-requires : tie.Need-character-at-requires Inv-loop μ-loop
 character-at-requires c κs = search needs
 
 put-line-requires : tie.Need-put-line-requires Inv-loop μ-loop
-put-line-requires c κs =
-    let turn = c .before .before in
-    writing-room _ (turn .before .loop .inv) (turn .before .before .before .before .pre .1)
-    (character-next _ _ (turn .loop-test .taken) (c .before .character-at .ensures))
+put-line-requires c κs = search needs
 
 add-read : tie.Need-add-read Inv-loop μ-loop
 add-read c =

@@ -1,28 +1,33 @@
--- Writing a character's line. In order: the name or - (`name-yes`, `name-none`), as naming answers (`done-named`, `refused-named`), in the part of a
--- buffer from an index on (`put-front`, `name-fits`, `wrote-named`, `refused-index`, `wrote-unnamed`); the line, with room for each part where the whole
--- has (`room-hex`, `room-space`, `room-name`, `room-feed`, `wrote-line`, `line-fits`).
+-- Writing a character's line. In order: the name or - (`name-yes`, `name-none`), as naming answers (`name-fits`, `done-named`, `refused-named`), in the part
+-- of a buffer from an index on (`put-front`, `wrote-named`, `refused-index`, `wrote-unnamed`); the line, with room for each part where the whole has
+-- (`room-space`, `room-feed`, `wrote-line`).
 -- Not here: the code in hex (crate listing_hex), how long a line is at most (proofs/Bound). Assumes nothing.
 use mathlib.Core.Path.{_≡_, refl, sym, _∙_, ap}
 use mathlib.Core.Bool.{true, false}
 use mathlib.Core.List.{List, [], _∷_, _++_, append-assoc}
 use Prim.Native.Nat.{ℕ, _+_, _-_, _≤_, _<_}
 use native.Mathlib.Omega.{arith}
+use lib.Dec.{ltb}
 use lib.ListN.{length, take, drop, set, take-append-drop}
 use lib.Seq.{sets, sets-eq, drop-drop, drop-append-le}
+use borrow.Author.Tests.{ltb-true, ltb-false}
 use borrow.Rule.Slice.PartMut.{midOf, postOf, putMid, mid-len, put-same}
 use Rattle.laws.specs.Writing.{front, Room, Wrote}
 use Rattle.laws.proofs.Bools.{test}
 use Rattle.laws.proofs.Filling.{Piece, wrote-one, wrote-two, room-one, room-first, room-second}
+use Rattle.answers.specs.Verdicts.{Fills}
+use Rattle.answers.specs.Answers.{filled}
 use Rattle.answers.specs.declared.Refusal.{Refusal}
 use Rattle.answers.specs.declared.Filled.{Filled}
 use Rattle.answers.specs.declared.Filled.the-variants.{Done, Refused}
+use Rattle.answers.proofs.Verdicts.{done-not-refused, refused-room, fills-done, fills-unique}
 use Rattle.letters.specs.Syllables.{isSyllable}
 use Rattle.names.specs.Names.{nameOf}
-use Rattle.names.specs.Naming.{Names}
+use Rattle.names.specs.Naming.{noSyllable, Names}
 use Rattle.names.proofs.Writing.{names-refused}
-use Rattle.names.proofs.Found.{names-unique, names-whole}
+use Rattle.names.proofs.Found.{passes-syllable, names-unique, names-whole}
 use Rattle.listing_hex.specs.Hex.{hexOf}
-use Rattle.listing.specs.Listing.{nameOrNone, lineOf}
+use Rattle.listing_line.specs.Line.{nameOrNone, lineOf}
 
 -- ---- the name or -
 
@@ -39,18 +44,24 @@ module _ (c : ℕ) where
   name-none h = rw h
 
 -- what naming answers, and leaves
-module _ (c : ℕ) {out out′ : List ℕ} {r : Filled} (room : length (nameOrNone c) ≤ length out) (named : Names c out r out′) where
-  done-named : {k : ℕ} → r ≡ Done k → (k ≡ length (nameOrNone c)) × (out′ ≡ front (nameOrNone c) out)
-  done-named {k} e =
-      test (isSyllable c)
-      (λ h.
-      let same = names-unique named (names-whole c h (rw (name-yes c h) at room)) in
-      let sizes : Done k ≡ Done (length (nameOf c)) = sym e ∙ same .0 in
-      rw (name-yes c h) (cc, same .1))
-      (λ h. absurd (done-is-refused (sym e ∙ names-unique named (names-refused c h) .0)))
+module _ (c : ℕ) {out out′ : List ℕ} {r : Filled} (named : Names c out r out′) where
+  module _ {k : ℕ} (e : r ≡ Done k) where
+    done : Fills (noSyllable c) (nameOf c) (length (nameOf c)) out (filled (Done k)) out′
+    done = rw e at named .fills
 
-  refused-named : {refusal : Refusal} → r ≡ Refused refusal → (nameOrNone c ≡ 0x2D ∷ []) × (out′ ≡ out)
-  refused-named e =
+    -- a name that is written had room
+    pub name-fits : k ≤ length out
+    name-fits =
+        test (ltb (length out) k)
+        (λ t. absurd (done-not-refused (fills-unique done (refused-room (fills-done done .0) (fills-done done .1) (ltb-true (length out) k t)) .0)))
+        (λ t. ltb-false (length out) k t)
+
+    done-named : (k ≡ length (nameOrNone c)) × (out′ ≡ front (nameOrNone c) out)
+    done-named = rw (name-yes c (passes-syllable c (fills-done done .0))) (fills-done done .1, fills-done done .2)
+
+  -- where there is room, what is refused has no name
+  refused-named : length (nameOrNone c) ≤ length out → {refusal : Refusal} → r ≡ Refused refusal → (nameOrNone c ≡ 0x2D ∷ []) × (out′ ≡ out)
+  refused-named room e =
       test (isSyllable c)
       (λ h. absurd (done-is-refused (sym (names-unique named (names-whole c h (rw (name-yes c h) at room)) .0) ∙ e)))
       (λ h. (name-none c h, names-unique named (names-refused c h) .1))
@@ -80,41 +91,37 @@ module _ (c : ℕ) {out part : List ℕ} {at : ℕ} {r : Filled} (room : Room ou
   room-part : length (nameOrNone c) ≤ length (behind out at)
   room-part = omega (arith, room .fits, behind-long out at)
 
-  module _ {k : ℕ} (done : r ≡ Done k) where
-    pub name-fits : at + k ≤ length out
-    name-fits = omega (arith, room .fits, done-named c room-part named done .0)
-
-    pub wrote-named : Wrote out at (nameOrNone c) (at + k) (withBehind out at part)
-    wrote-named =
-        let h = done-named c room-part named done in
-        record { behind = ap (λ (n : ℕ). at + n) (h .0); holds = rw (h .1) (put-front out at (nameOrNone c) (room .fits)) }
+  pub wrote-named : {k : ℕ} → r ≡ Done k → Wrote out at (nameOrNone c) (at + k) (withBehind out at part)
+  wrote-named done =
+      let h = done-named c named done in
+      record { behind = ap (λ (n : ℕ). at + n) (h .0); holds = rw (h .1) (put-front out at (nameOrNone c) (room .fits)) }
 
   module _ {refusal : Refusal} (refused : r ≡ Refused refusal) where
     put-back : withBehind out at part ≡ out
-    put-back = ap (withBehind out at) (refused-named c room-part named refused .1) ∙ put-same at (length out - at) out
+    put-back = ap (withBehind out at) (refused-named c named room-part refused .1) ∙ put-same at (length out - at) out
 
     pub refused-index : at < length (withBehind out at part)
-    refused-index = rw put-back (room-one room (refused-named c room-part named refused .0))
+    refused-index = rw put-back (room-one room (refused-named c named room-part refused .0))
 
     pub wrote-unnamed : Wrote out at (nameOrNone c) (at + 1) (set (withBehind out at part) at 0x2D)
-    wrote-unnamed = rw put-back (wrote-one (refused-named c room-part named refused .0))
+    wrote-unnamed = rw put-back (wrote-one (refused-named c named room-part refused .0))
 
--- ---- the line
+-- ---- the line: the code, and then the name, are written where they have room
 
 module _ (c : ℕ) {out : List ℕ} {at : ℕ} (room : Room out at (lineOf c)) where
-  line-piece : Piece (lineOf c) (hexOf c) (0x20 ∷ (nameOrNone c ++ (0x0A ∷ [])))
+  code-piece : Piece (lineOf c) (hexOf c) (0x20 ∷ (nameOrNone c ++ (0x0A ∷ [])))
   unfolding lineOf
-  line-piece = record { eq = refl }
+  code-piece = record { eq = refl }
 
-  pub room-hex : Room out at (hexOf c)
-  room-hex = room-first room line-piece
+  module _ {behind-code : ℕ} {out₁ : List ℕ} (put-code : Room out at (hexOf c) → Wrote out at (hexOf c) behind-code out₁) where
+    wrote-code : Wrote out at (hexOf c) behind-code out₁
+    wrote-code = put-code (room-first room code-piece)
 
-  module _ {behind-code : ℕ} {out₁ : List ℕ} (wrote-hex : Wrote out at (hexOf c) behind-code out₁) where
     space-piece : Piece (0x20 ∷ (nameOrNone c ++ (0x0A ∷ []))) (0x20 ∷ []) (nameOrNone c ++ (0x0A ∷ []))
     space-piece = record { eq = refl }
 
     room-behind : Room out₁ behind-code (0x20 ∷ (nameOrNone c ++ (0x0A ∷ [])))
-    room-behind = room-second room line-piece wrote-hex
+    room-behind = room-second room code-piece wrote-code
 
     pub room-space : behind-code < length out₁
     room-space = room-one (room-first room-behind space-piece) refl
@@ -125,16 +132,15 @@ module _ (c : ℕ) {out : List ℕ} {at : ℕ} (room : Room out at (lineOf c)) w
     room-rest : Room (set out₁ behind-code 0x20) (behind-code + 1) (nameOrNone c ++ (0x0A ∷ []))
     room-rest = room-second room-behind space-piece (wrote-one refl)
 
-    pub room-name : Room (set out₁ behind-code 0x20) (behind-code + 1) (nameOrNone c)
-    room-name = room-first room-rest name-piece
+    module _ {behind-name : ℕ} {out₂ : List ℕ}
+        (put-name : Room (set out₁ behind-code 0x20) (behind-code + 1) (nameOrNone c)
+        → Wrote (set out₁ behind-code 0x20) (behind-code + 1) (nameOrNone c) behind-name out₂) where
+      wrote-name : Wrote (set out₁ behind-code 0x20) (behind-code + 1) (nameOrNone c) behind-name out₂
+      wrote-name = put-name (room-first room-rest name-piece)
 
-    module _ {behind-name : ℕ} {out₂ : List ℕ} (wrote-name : Wrote (set out₁ behind-code 0x20) (behind-code + 1) (nameOrNone c) behind-name out₂) where
       pub room-feed : behind-name < length out₂
       room-feed = room-one (room-second room-rest name-piece wrote-name) refl
 
       pub wrote-line : Wrote out at (lineOf c) (behind-name + 1) (set out₂ behind-name 0x0A)
       wrote-line =
-          wrote-two line-piece wrote-hex (wrote-two space-piece (wrote-one refl) (wrote-two name-piece wrote-name (wrote-one refl)))
-
-      pub line-fits : behind-name + 1 ≤ length out
-      line-fits = omega (arith, room .fits, wrote-line .behind)
+          wrote-two code-piece wrote-code (wrote-two space-piece (wrote-one refl) (wrote-two name-piece wrote-name (wrote-one refl)))

@@ -1,0 +1,3 @@
+-- Crate listing_line, specs/: the line of one character.
+-- Not here: any law or proof (proofs/).
+pub mod Line
