@@ -12,7 +12,7 @@ use Rattle.clusters_simple.proofs.put_simple.Reads as put-simple
 use Rattle.clusters_simple.proofs.put_simple.Kinds as put-simple-kinds
 use Rattle.clusters_simple.proofs.+put_simple.Lts-put_simple as put-simple-lts
 use Rattle.clusters_simple.proofs.put_row.Reads as put-row-reads
-use Rattle.clusters_table.proofs.row_at.Reads as row-at-reads
+use Rattle.clusters_row.proofs.row_at.Reads as row-at-reads
 use Rattle.letters_step.proofs.parts_of.Reads as parts-of-reads
 use Rattle.clusters_simple.proofs.+put_simple.{statement}
 use Rattle.clusters_simple.proofs.+put_simple.Tie.{close}
