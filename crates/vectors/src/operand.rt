@@ -1,6 +1,5 @@
-// Reading operands: numbers in capital hex with single spaces between. What is wrongly formed has no numbers at all.
+// Reading operands: numbers in capital hex with single spaces between. What is wrongly formed is found before a number of it is answered.
 // Not here: what the numbers are for (texts, single).
-use crate::put;
 ghost use Prim.Native.Nat.{_≤_};
 ghost use lib.ListN.{length};
 
@@ -9,6 +8,12 @@ const NONE: u32 = 16;
 
 // A number from here on has its six digits, and a seventh is no part of it.
 const LARGE: u32 = 0x10_0000;
+
+// More digits than a number has.
+const WRONG: usize = 7;
+
+// What `code` says of a field that is no code: more than six digits say.
+pub const NO_CODE: u32 = 0x100_0000;
 
 // A number, and the index behind its digits.
 struct Number {
@@ -25,6 +30,40 @@ fn digit_of(byte: u8) -> u32
         b'A'..=b'F' => 10 + (byte - b'A') as u32,
         _ => NONE,
     }
+}
+
+// How many digits of a number are read with `byte`, where `digits` were before: none with a byte
+// that stands between two numbers. What is wrongly formed stays so.
+fn digits_with(byte: u8, digits: usize, fewest: usize, most: usize, mark: u8) -> usize {
+    if digit_of(byte) != NONE {
+        if most <= digits {
+            return WRONG;
+        }
+        return digits + 1;
+    }
+    if byte != b' ' && byte != mark {
+        return WRONG;
+    }
+    if digits < fewest || most < digits {
+        return WRONG;
+    }
+    0
+}
+
+// Whether a field is numbers, each of `fewest` to `most` digits, with a space or a `mark` between.
+fn are_numbers(field: &[u8], fewest: usize, most: usize, mark: u8) -> bool {
+    let mut digits = 0;
+    let mut i = 0;
+    while i < field.len() {
+        digits = digits_with(field[i], digits, fewest, most, mark);
+        i += 1;
+    }
+    digits_with(b' ', digits, fewest, most, mark) == 0
+}
+
+// Whether operands are texts of codes with `;` between.
+pub fn are_texts(operands: &[u8]) -> bool {
+    are_numbers(operands, 4, 6, b';')
 }
 
 // The number that begins at `from`; with no digit there it ends where it begins.
@@ -47,9 +86,39 @@ fn number_at(field: &[u8], from: usize) -> Number
     Number { value, behind: at }
 }
 
-// Reads the numbers of a field, each of `fewest` to `most` digits, and says how many they are: 0
-// where the field is wrongly formed, or has more than `out`.
-fn numbers(field: &[u8], fewest: usize, most: usize, out: &mut [u32]) -> usize
+// A field that is one code, of four to six digits.
+pub fn code(field: &[u8]) -> u32 {
+    let number = number_at(field, 0);
+    if number.behind < field.len() {
+        return NO_CODE;
+    }
+    if field.len() < 4 || 6 < field.len() {
+        return NO_CODE;
+    }
+    number.value
+}
+
+// Reads the codes of a text, and says how many they are: 0 where it has more than `out`.
+pub fn codes(text: &[u8], out: &mut [u32]) -> usize
+    ensures { λ r. ⌜ r ≤ length (now (out .exit)) ⌝ }
+{
+    let mut at = 0;
+    let mut count = 0;
+    while count < out.len() {
+        let number = number_at(text, at);
+        let behind = number.behind;
+        out[count] = number.value;
+        count += 1;
+        if text.len() <= behind {
+            return count;
+        }
+        at = behind + 1;
+    }
+    0
+}
+
+// Reads bytes, of two digits, in the same way.
+fn read_bytes(field: &[u8], out: &mut [u8]) -> usize
     ensures { λ r. ⌜ r ≤ length (now (out .exit)) ⌝ }
 {
     let mut at = 0;
@@ -57,50 +126,24 @@ fn numbers(field: &[u8], fewest: usize, most: usize, out: &mut [u32]) -> usize
     while count < out.len() {
         let number = number_at(field, at);
         let behind = number.behind;
-        if behind - at < fewest {
-            return 0;
-        }
-        if most < behind - at {
-            return 0;
-        }
-        out[count] = number.value;
+        out[count] = (number.value % 0x100) as u8;
         count += 1;
         if field.len() <= behind {
             return count;
-        }
-        if field[behind] != b' ' {
-            return 0;
         }
         at = behind + 1;
     }
     0
 }
 
-// Code points, of four to six digits.
-pub fn codes(field: &[u8], out: &mut [u32]) -> usize
+// The bytes of a field: 0 also where it is wrongly formed.
+pub fn bytes(field: &[u8], out: &mut [u8]) -> usize
     ensures { λ r. ⌜ r ≤ length (now (out .exit)) ⌝ }
 {
-    numbers(field, 4, 6, out)
-}
-
-fn narrow(values: &[u32], out: &mut [u8]) {
-    let mut i = 0;
-    while i < values.len() {
-        put::byte((values[i] % 0x100) as u8, out, i);
-        i += 1;
+    if are_numbers(field, 2, 2, b' ') {
+        return read_bytes(field, out);
     }
-}
-
-// Bytes, of two digits, by way of `values`.
-pub fn bytes(field: &[u8], values: &mut [u32], out: &mut [u8]) -> usize
-    ensures { λ r. ⌜ r ≤ length (now (out .exit)) ⌝ }
-{
-    let count = numbers(field, 2, 2, values);
-    if out.len() < count {
-        return 0;
-    }
-    narrow(&values[..count], out);
-    count
+    0
 }
 
 // The index of the first such byte, or the length where there is none.

@@ -1,5 +1,5 @@
-// The words with one operand: step and name take a code, read a name, utf8 bytes. Each writes its answer to the front and says how long
-// it is. Not here: the words that take several texts (texts).
+// The words with one operand: step and name take a code, read a name, utf8 bytes. Each writes its answer.
+// Not here: the words that take several texts (texts).
 use crate::operand;
 use crate::put;
 use answers::Filled;
@@ -8,64 +8,70 @@ use letters::step::Stepped;
 use names::named::Named;
 use utf8::read::Read;
 
-fn put_parts(parts: Parts, answer: &mut [u8]) -> usize {
+// No name of a syllable is longer.
+const NAME: usize = 23;
+
+// The most bytes of a text, and so the most codes that they read as.
+const BYTES: usize = 512;
+
+fn put_parts(parts: Parts) {
     match parts {
-        Parts::One(only) => put::code(only, answer, 0),
+        Parts::One(only) => put::code(only),
         Parts::Two(first, second) => {
-            let behind = put::code(first, answer, 0);
-            let next = put::byte(b' ', answer, behind);
-            put::code(second, answer, next)
+            put::code(first);
+            put::byte(b' ');
+            put::code(second);
         }
     }
 }
 
-pub fn step(operand: &[u8], codes: &mut [u32], answer: &mut [u8]) -> usize {
-    let count = operand::codes(operand, codes);
-    if count != 1 {
-        return put::spoilt(answer);
+pub fn step(operand: &[u8]) {
+    let code = operand::code(operand);
+    if code == operand::NO_CODE {
+        put::no_vector();
+        return;
     }
-    let stepped = letters_step::one_step(codes[0]);
+    let stepped = letters_step::one_step(code);
     match stepped {
-        Stepped::Into(parts) => put_parts(parts, answer),
-        Stepped::Refused(refusal) => put::refusal(refusal, answer, 0),
+        Stepped::Into(parts) => put_parts(parts),
+        Stepped::Refused(refusal) => put::refusal(refusal),
     }
 }
 
-pub fn name(operand: &[u8], codes: &mut [u32], bytes: &mut [u8], answer: &mut [u8]) -> usize {
-    let count = operand::codes(operand, codes);
-    if count != 1 {
-        return put::spoilt(answer);
+pub fn name(operand: &[u8]) {
+    let code = operand::code(operand);
+    if code == operand::NO_CODE {
+        put::no_vector();
+        return;
     }
-    let filled = names_naming::name(codes[0], bytes);
+    let mut bytes = [0u8; NAME];
+    let filled = names_naming::name(code, &mut bytes);
     match filled {
-        Filled::Done(length) => put::front(bytes, length, answer),
-        Filled::Refused(refusal) => put::refusal(refusal, answer, 0),
+        Filled::Done(length) => put::front(&bytes, length),
+        Filled::Refused(refusal) => put::refusal(refusal),
     }
 }
 
 // Any bytes are a name to be read, none too.
-pub fn read(name: &[u8], answer: &mut [u8]) -> usize {
+pub fn read(name: &[u8]) {
     let named = names_reading::read_name(name);
     match named {
-        Named::Syllable(code) => put::code(code, answer, 0),
-        Named::Refused(refusal) => put::refusal(refusal, answer, 0),
+        Named::Syllable(code) => put::code(code),
+        Named::Refused(refusal) => put::refusal(refusal),
     }
 }
 
-pub fn utf8(
-    operand: &[u8],
-    codes: &mut [u32],
-    made: &mut [u32],
-    bytes: &mut [u8],
-    answer: &mut [u8],
-) -> usize {
-    let count = operand::bytes(operand, codes, bytes);
+pub fn utf8(operand: &[u8]) {
+    let mut bytes = [0u8; BYTES];
+    let count = operand::bytes(operand, &mut bytes);
     if count == 0 {
-        return put::spoilt(answer);
+        put::no_vector();
+        return;
     }
-    let read = utf8_read::read_text(&bytes[..count], made);
+    let mut made = [0u32; BYTES];
+    let read = utf8_read::read_text(&bytes[..count], &mut made);
     match read {
-        Read::Done(counted) => put::codes(made, counted.length, answer, 0),
-        Read::Refused(refusal) => put::refusal(refusal, answer, 0),
+        Read::Done(counted) => put::codes(&made, counted.length),
+        Read::Refused(refusal) => put::refusal(refusal),
     }
 }

@@ -4,6 +4,13 @@ use crate::operand;
 use crate::put;
 use answers::Filled;
 
+// The most codes of one text: a published vector has fewer than ten. The buffers are made anew for
+// each text, so they are small.
+const CODES: usize = 64;
+
+// Seven for each code: no call of document 01 makes more.
+const MADE: usize = 7 * CODES;
+
 pub enum Text {
     Join,
     Parts,
@@ -22,45 +29,38 @@ fn make(call: Text, text: &[u32], made: &mut [u32]) -> Filled {
     }
 }
 
-// Answers one field from `at` on, and says where the answer ends.
-fn answer_field(
-    call: Text,
-    field: &[u8],
-    codes: &mut [u32],
-    made: &mut [u32],
-    answer: &mut [u8],
-    at: usize,
-) -> usize {
-    let count = operand::codes(field, codes);
+// Answers one field. One that has too many codes shows in its place.
+fn answer_field(call: Text, field: &[u8]) {
+    let mut codes = [0u32; CODES];
+    let count = operand::codes(field, &mut codes);
     if count == 0 {
-        return put::spoilt(answer);
+        put::no_vector();
+        return;
     }
-    let filled = make(call, &codes[..count], made);
+    let mut made = [0u32; MADE];
+    let filled = make(call, &codes[..count], &mut made);
     match filled {
-        Filled::Done(length) => put::codes(made, length, answer, at),
-        Filled::Refused(refusal) => put::refusal(refusal, answer, at),
+        Filled::Done(length) => put::codes(&made, length),
+        Filled::Refused(refusal) => put::refusal(refusal),
     }
 }
 
-// Answers every field. A field that is none spoils the whole answer.
-pub fn each(
-    call: Text,
-    operands: &[u8],
-    codes: &mut [u32],
-    made: &mut [u32],
-    answer: &mut [u8],
-) -> usize {
-    let mut at = 0;
+// Answers every field. One that is wrongly formed leaves no answer to any, so nothing is written
+// before all are known to be texts.
+pub fn each(call: Text, operands: &[u8]) {
+    if !operand::are_texts(operands) {
+        put::no_vector();
+        return;
+    }
     let mut from = 0;
     while from <= operands.len() {
         let rest = &operands[from..];
         let size = operand::find(rest, b';');
-        at = answer_field(call, &rest[..size], codes, made, answer, at);
+        answer_field(call, &rest[..size]);
         if rest.len() <= size {
-            return at;
+            return;
         }
-        at = put::byte(b';', answer, at);
+        put::byte(b';');
         from += size + 1;
     }
-    at
 }

@@ -23,103 +23,68 @@ enum Word {
     Unknown,
 }
 
-fn is_word(word: &[u8], wanted: &[u8]) -> bool {
-    if word.len() != wanted.len() {
-        return false;
-    }
+// With a number from here on, one byte more would not fit.
+const LONG: u64 = 0x100_0000_0000_0000;
+
+// A word as one number: a 1, so that a zero in front counts, and the bytes behind it. One of more
+// than seven bytes is 0, which no other is.
+fn number_of(word: &[u8]) -> u64 {
+    let mut number: u64 = 1;
     let mut i = 0;
     while i < word.len() {
-        if word[i] != wanted[i] {
-            return false;
+        if LONG <= number {
+            return 0;
         }
+        number = 0x100 * number + word[i] as u64;
         i += 1;
     }
-    true
+    number
 }
 
-fn word_of(word: &[u8]) -> Word {
-    if is_word(word, b"join") {
-        return Word::Text(Text::Join);
+// The numbers are the bytes of the words in ASCII.
+fn word_of(number: u64) -> Word {
+    match number {
+        // join
+        0x1_6A6F_696E => Word::Text(Text::Join),
+        // parts
+        0x1_70_6172_7473 => Word::Text(Text::Parts),
+        // simple
+        0x1_7369_6D70_6C65 => Word::Text(Text::Simple),
+        // gather
+        0x1_6761_7468_6572 => Word::Text(Text::Gather),
+        // groups
+        0x1_6772_6F75_7073 => Word::Text(Text::Groups),
+        // step
+        0x1_7374_6570 => Word::Step,
+        // name
+        0x1_6E61_6D65 => Word::Name,
+        // read
+        0x1_7265_6164 => Word::Read,
+        // utf8
+        0x1_7574_6638 => Word::Utf8,
+        _ => Word::Unknown,
     }
-    if is_word(word, b"parts") {
-        return Word::Text(Text::Parts);
-    }
-    if is_word(word, b"simple") {
-        return Word::Text(Text::Simple);
-    }
-    if is_word(word, b"gather") {
-        return Word::Text(Text::Gather);
-    }
-    if is_word(word, b"groups") {
-        return Word::Text(Text::Groups);
-    }
-    if is_word(word, b"step") {
-        return Word::Step;
-    }
-    if is_word(word, b"name") {
-        return Word::Name;
-    }
-    if is_word(word, b"read") {
-        return Word::Read;
-    }
-    if is_word(word, b"utf8") {
-        return Word::Utf8;
-    }
-    Word::Unknown
 }
 
-// Writes the answer of a word with its operands, and says how long it is.
-fn call(
-    word: Word,
-    operands: &[u8],
-    codes: &mut [u32],
-    made: &mut [u32],
-    bytes: &mut [u8],
-    answer: &mut [u8],
-) -> usize {
+// Writes the answer of a word with its operands.
+fn call(word: Word, operands: &[u8]) {
     match word {
-        Word::Text(text) => texts::each(text, operands, codes, made, answer),
-        Word::Step => single::step(operands, codes, answer),
-        Word::Name => single::name(operands, codes, bytes, answer),
-        Word::Read => single::read(operands, answer),
-        Word::Utf8 => single::utf8(operands, codes, made, bytes, answer),
-        Word::Unknown => put::spoilt(answer),
+        Word::Text(text) => texts::each(text, operands),
+        Word::Step => single::step(operands),
+        Word::Name => single::name(operands),
+        Word::Read => single::read(operands),
+        Word::Utf8 => single::utf8(operands),
+        Word::Unknown => put::no_vector(),
     }
 }
 
 // The same of a line: the word ends at the first space, and without one there is no operand.
-fn call_line(
-    line: &[u8],
-    codes: &mut [u32],
-    made: &mut [u32],
-    bytes: &mut [u8],
-    answer: &mut [u8],
-) -> usize {
+pub fn answer(line: &[u8]) {
     let size = operand::find(line, b' ');
     if line.len() <= size {
-        return put::spoilt(answer);
+        put::no_vector();
+        return;
     }
-    let word = word_of(&line[..size]);
-    call(word, &line[size + 1..], codes, made, bytes, answer)
-}
-
-// The answer of what is no vector, with its line feed.
-pub fn no_vector(answer: &mut [u8]) -> usize {
-    put::bytes(b"not a vector\n", answer, 0)
-}
-
-// The answer of a line, with its line feed. An answer that fills its buffer is spoilt.
-pub fn answer(
-    line: &[u8],
-    codes: &mut [u32],
-    made: &mut [u32],
-    bytes: &mut [u8],
-    answer: &mut [u8],
-) -> usize {
-    let end = call_line(line, codes, made, bytes, answer);
-    let size = put::byte(b'\n', answer, end);
-    if size < answer.len() {
-        return size;
-    }
-    no_vector(answer)
+    let word = word_of(number_of(&line[..size]));
+    call(word, &line[size + 1..]);
 }

@@ -1,4 +1,4 @@
--- `vectors::take_block` is safe and ends. The loop keeps the lengths.
+-- `vectors::take_block` is safe and ends. The loop keeps the length.
 -- Assumes nothing.
 use mathlib.Core.Path.{_≡_}
 use Prim.Native.Nat.{_-_}
@@ -8,12 +8,10 @@ use Rattle.vectors.proofs.take_block.Statement.{statement}
 use Rattle.vectors.proofs.take_block.Tie as tie
 
 abbrev Inv-loop : tie.InvT-loop
-Inv-loop block line₀ before codes₀ made₀ bytes₀ answer₀ held₀ i₀ line codes made bytes answer held i =
-    (length line ≡ length line₀) × (length codes ≡ length codes₀) × (length made ≡ length made₀)
-    × (length bytes ≡ length bytes₀) × (length answer ≡ length answer₀)
+Inv-loop block line₀ before held₀ i₀ line held i = length line ≡ length line₀
 
 abbrev μ-loop : tie.MeasureT-loop
-μ-loop block line₀ before codes₀ made₀ bytes₀ answer₀ held₀ i₀ line codes made bytes answer held i = length block - i
+μ-loop block line₀ before held₀ i₀ line held i = length block - i
 
 loop-holds : tie.Need-loop-holds Inv-loop μ-loop
 loop-holds c = search needs
@@ -36,18 +34,6 @@ loop-again c = search needs
 same-length : tie.Need-same-length Inv-loop μ-loop
 same-length c = search needs
 
-same-length-2 : tie.Need-same-length-2 Inv-loop μ-loop
-same-length-2 c = search needs
-
-same-length-3 : tie.Need-same-length-3 Inv-loop μ-loop
-same-length-3 c = search needs
-
-same-length-4 : tie.Need-same-length-4 Inv-loop μ-loop
-same-length-4 c = search needs
-
-same-length-5 : tie.Need-same-length-5 Inv-loop μ-loop
-same-length-5 c = search needs
-
 returns : tie.Need-returns Inv-loop μ-loop
 returns c = search needs
 
@@ -64,8 +50,4 @@ take-block-spec =
     loop-less
     loop-again
     same-length
-    same-length-2
-    same-length-3
-    same-length-4
-    same-length-5
     returns)

@@ -1,4 +1,4 @@
--- `vectors::put::front` is safe: the part that is lent on is as long as it says.
+-- `vectors::put::front` is safe: the part that is written is as long as it says.
 -- Assumes nothing.
 use mathlib.Core.Path.{sym}
 use native.Mathlib.Omega.{arith}
@@ -7,11 +7,8 @@ use borrow.Author.Needs.{needs}
 use Rattle.vectors.proofs.put.front.Statement.{statement}
 use Rattle.vectors.proofs.put.front.Tie as tie
 
-spoilt-requires : tie.Need-spoilt-requires
-spoilt-requires c κs = search needs
-
-same-length : tie.Need-same-length
-same-length c = search needs
+no-vector-requires : tie.Need-no-vector-requires
+no-vector-requires c κs = search needs
 
 returns : tie.Need-returns
 returns c = search needs
@@ -22,20 +19,9 @@ slice-aggregate-bytes c = sym (length-take-le _ _ (omega arith))
 bytes-requires : tie.Need-bytes-requires
 bytes-requires c κs = search needs
 
-same-length-2 : tie.Need-same-length-2
-same-length-2 c = search needs
-
 returns-2 : tie.Need-returns-2
 returns-2 c = search needs
 
 pub front-spec : {M : Type 1} → statement M
 front-spec =
-    tie.close
-    (tie.spec
-    spoilt-requires
-    same-length
-    returns
-    slice-aggregate-bytes
-    bytes-requires
-    same-length-2
-    returns-2)
+    tie.close (tie.spec no-vector-requires returns slice-aggregate-bytes bytes-requires returns-2)

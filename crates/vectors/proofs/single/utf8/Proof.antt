@@ -7,35 +7,35 @@ use borrow.Author.Needs.{needs}
 use Rattle.vectors.proofs.single.utf8.Statement.{statement}
 use Rattle.vectors.proofs.single.utf8.Tie as tie
 
+slice-aggregate-bytes : tie.Need-slice-aggregate-bytes
+slice-aggregate-bytes c = search needs
+
 bytes-requires : tie.Need-bytes-requires
 bytes-requires c κs = search needs
 
-spoilt-requires : tie.Need-spoilt-requires
-spoilt-requires c κs = search needs
-
-same-length : tie.Need-same-length
-same-length c = search needs
-
-same-length-2 : tie.Need-same-length-2
-same-length-2 c = search needs
-
-same-length-3 : tie.Need-same-length-3
-same-length-3 c = search needs
+no-vector-requires : tie.Need-no-vector-requires
+no-vector-requires c κs = search needs
 
 returns : tie.Need-returns
 returns c = search needs
 
-slice-reshare-prefix-read-text : tie.Need-slice-reshare-prefix-read-text
-slice-reshare-prefix-read-text c = search needs
+array-share-prefix-bytes : tie.Need-array-share-prefix-bytes
+array-share-prefix-bytes c = search needs
 
 slice-aggregate-read-text : tie.Need-slice-aggregate-read-text
 slice-aggregate-read-text c = sym (length-take-le _ _ (omega arith))
+
+slice-aggregate-read-text-2 : tie.Need-slice-aggregate-read-text-2
+slice-aggregate-read-text-2 c = search needs
 
 read-text-requires : tie.Need-read-text-requires
 read-text-requires c κs = search needs
 
 enum-known-read : tie.Need-enum-known-read
 enum-known-read c = search needs
+
+slice-aggregate-codes : tie.Need-slice-aggregate-codes
+slice-aggregate-codes c = search needs
 
 codes-requires : tie.Need-codes-requires
 codes-requires c κs = search needs
@@ -46,32 +46,8 @@ enum-known-read-2 c = search needs
 refusal-requires : tie.Need-refusal-requires
 refusal-requires c κs = search needs
 
-same-length-4 : tie.Need-same-length-4
-same-length-4 c = search needs
-
-same-length-5 : tie.Need-same-length-5
-same-length-5 c = search needs
-
-same-length-6 : tie.Need-same-length-6
-same-length-6 c = search needs
-
-same-length-7 : tie.Need-same-length-7
-same-length-7 c = search needs
-
 returns-2 : tie.Need-returns-2
 returns-2 c = search needs
-
-same-length-8 : tie.Need-same-length-8
-same-length-8 c = search needs
-
-same-length-9 : tie.Need-same-length-9
-same-length-9 c = search needs
-
-same-length-10 : tie.Need-same-length-10
-same-length-10 c = search needs
-
-same-length-11 : tie.Need-same-length-11
-same-length-11 c = search needs
 
 returns-3 : tie.Need-returns-3
 returns-3 c = search needs
@@ -80,26 +56,18 @@ pub utf8-spec : {M : Type 1} → statement M
 utf8-spec =
     tie.close
     (tie.spec
+    slice-aggregate-bytes
     bytes-requires
-    spoilt-requires
-    same-length
-    same-length-2
-    same-length-3
+    no-vector-requires
     returns
-    slice-reshare-prefix-read-text
+    array-share-prefix-bytes
     slice-aggregate-read-text
+    slice-aggregate-read-text-2
     read-text-requires
     enum-known-read
+    slice-aggregate-codes
     codes-requires
     enum-known-read-2
     refusal-requires
-    same-length-4
-    same-length-5
-    same-length-6
-    same-length-7
     returns-2
-    same-length-8
-    same-length-9
-    same-length-10
-    same-length-11
     returns-3)

@@ -7,32 +7,35 @@ use borrow.Author.Needs.{needs}
 use Rattle.vectors.proofs.texts.answer_field.Statement.{statement}
 use Rattle.vectors.proofs.texts.answer_field.Tie as tie
 
+slice-aggregate-codes : tie.Need-slice-aggregate-codes
+slice-aggregate-codes c = search needs
+
 codes-requires : tie.Need-codes-requires
 codes-requires c κs = search needs
 
-spoilt-requires : tie.Need-spoilt-requires
-spoilt-requires c κs = search needs
-
-same-length : tie.Need-same-length
-same-length c = search needs
-
-same-length-2 : tie.Need-same-length-2
-same-length-2 c = search needs
+no-vector-requires : tie.Need-no-vector-requires
+no-vector-requires c κs = search needs
 
 returns : tie.Need-returns
 returns c = search needs
 
-slice-reshare-prefix-make : tie.Need-slice-reshare-prefix-make
-slice-reshare-prefix-make c = search needs
+array-share-prefix-codes : tie.Need-array-share-prefix-codes
+array-share-prefix-codes c = search needs
 
 slice-aggregate-make : tie.Need-slice-aggregate-make
 slice-aggregate-make c = sym (length-take-le _ _ (omega arith))
+
+slice-aggregate-make-2 : tie.Need-slice-aggregate-make-2
+slice-aggregate-make-2 c = search needs
 
 make-requires : tie.Need-make-requires
 make-requires c κs = search needs
 
 enum-known-filled : tie.Need-enum-known-filled
 enum-known-filled c = search needs
+
+slice-aggregate-codes-2 : tie.Need-slice-aggregate-codes-2
+slice-aggregate-codes-2 c = search needs
 
 codes-requires-2 : tie.Need-codes-requires-2
 codes-requires-2 c κs = search needs
@@ -43,26 +46,8 @@ enum-known-filled-2 c = search needs
 refusal-requires : tie.Need-refusal-requires
 refusal-requires c κs = search needs
 
-same-length-3 : tie.Need-same-length-3
-same-length-3 c = search needs
-
-same-length-4 : tie.Need-same-length-4
-same-length-4 c = search needs
-
-same-length-5 : tie.Need-same-length-5
-same-length-5 c = search needs
-
 returns-2 : tie.Need-returns-2
 returns-2 c = search needs
-
-same-length-6 : tie.Need-same-length-6
-same-length-6 c = search needs
-
-same-length-7 : tie.Need-same-length-7
-same-length-7 c = search needs
-
-same-length-8 : tie.Need-same-length-8
-same-length-8 c = search needs
 
 returns-3 : tie.Need-returns-3
 returns-3 c = search needs
@@ -71,23 +56,18 @@ pub answer-field-spec : {M : Type 1} → statement M
 answer-field-spec =
     tie.close
     (tie.spec
+    slice-aggregate-codes
     codes-requires
-    spoilt-requires
-    same-length
-    same-length-2
+    no-vector-requires
     returns
-    slice-reshare-prefix-make
+    array-share-prefix-codes
     slice-aggregate-make
+    slice-aggregate-make-2
     make-requires
     enum-known-filled
+    slice-aggregate-codes-2
     codes-requires-2
     enum-known-filled-2
     refusal-requires
-    same-length-3
-    same-length-4
-    same-length-5
     returns-2
-    same-length-6
-    same-length-7
-    same-length-8
     returns-3)

@@ -1,20 +1,28 @@
--- `vectors::texts::each` is safe and ends: each turn goes on behind its field, and keeps the lengths.
+-- `vectors::texts::each` is safe and ends: each turn goes on behind its field.
 -- Assumes nothing.
-use mathlib.Core.Path.{_≡_, sym}
-use Prim.Native.Nat.{_+_, _-_}
+use mathlib.Core.Path.{sym}
+use Prim.Native.Nat.{_≤_, _+_, _-_}
 use native.Mathlib.Omega.{arith}
-use lib.Seq.{length-take-le}
 use lib.ListN.{length}
+use lib.Seq.{length-take-le}
 use borrow.Author.Needs.{needs}
 use Rattle.vectors.proofs.texts.each.Statement.{statement}
 use Rattle.vectors.proofs.texts.each.Tie as tie
 
 abbrev Inv-loop : tie.InvT-loop
-Inv-loop call operands codes₀ made₀ answer₀ at₀ from₀ codes made answer at from =
-    (length codes ≡ length codes₀) × (length made ≡ length made₀) × (length answer ≡ length answer₀)
+Inv-loop call operands from₀ from = from ≤ length operands + 1
 
 abbrev μ-loop : tie.MeasureT-loop
-μ-loop call operands codes₀ made₀ answer₀ at₀ from₀ codes made answer at from = length operands + 1 - from
+μ-loop call operands from₀ from = length operands + 1 - from
+
+are-texts-requires : tie.Need-are-texts-requires Inv-loop μ-loop
+are-texts-requires c κs = search needs
+
+no-vector-requires : tie.Need-no-vector-requires Inv-loop μ-loop
+no-vector-requires c κs = search needs
+
+returns : tie.Need-returns Inv-loop μ-loop
+returns c = search needs
 
 loop-holds : tie.Need-loop-holds Inv-loop μ-loop
 loop-holds c = search needs
@@ -37,17 +45,8 @@ slice-aggregate-answer-field c = sym (length-take-le _ _ (omega arith))
 answer-field-requires : tie.Need-answer-field-requires Inv-loop μ-loop
 answer-field-requires c κs = search needs
 
-same-length : tie.Need-same-length Inv-loop μ-loop
-same-length c = search needs
-
-same-length-2 : tie.Need-same-length-2 Inv-loop μ-loop
-same-length-2 c = search needs
-
-same-length-3 : tie.Need-same-length-3 Inv-loop μ-loop
-same-length-3 c = search needs
-
-returns : tie.Need-returns Inv-loop μ-loop
-returns c = search needs
+returns-2 : tie.Need-returns-2 Inv-loop μ-loop
+returns-2 c = search needs
 
 byte-requires : tie.Need-byte-requires Inv-loop μ-loop
 byte-requires c κs = search needs
@@ -64,17 +63,8 @@ loop-less c = search needs
 loop-again : tie.Need-loop-again Inv-loop μ-loop
 loop-again c = search needs
 
-same-length-4 : tie.Need-same-length-4 Inv-loop μ-loop
-same-length-4 c = search needs
-
-same-length-5 : tie.Need-same-length-5 Inv-loop μ-loop
-same-length-5 c = search needs
-
-same-length-6 : tie.Need-same-length-6 Inv-loop μ-loop
-same-length-6 c = search needs
-
-returns-2 : tie.Need-returns-2 Inv-loop μ-loop
-returns-2 c = search needs
+returns-3 : tie.Need-returns-3 Inv-loop μ-loop
+returns-3 c = search needs
 
 pub each-spec : {M : Type 1} → statement M
 each-spec =
@@ -82,6 +72,9 @@ each-spec =
     (tie.spec
     Inv-loop
     μ-loop
+    are-texts-requires
+    no-vector-requires
+    returns
     loop-holds
     sub-rest
     part-rest-start
@@ -89,16 +82,10 @@ each-spec =
     find-requires
     slice-aggregate-answer-field
     answer-field-requires
-    same-length
-    same-length-2
-    same-length-3
-    returns
+    returns-2
     byte-requires
     add-from
     add-from-2
     loop-less
     loop-again
-    same-length-4
-    same-length-5
-    same-length-6
-    returns-2)
+    returns-3)
