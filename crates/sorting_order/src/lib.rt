@@ -1,5 +1,6 @@
 // Crate sorting_order: the order of an image's records, into a lent buffer: each record is put in its place among those
-// before it, which is found by halves. Not here: where two records stand to each other (crate sorting_standing), how the order is printed (crate sorting_lines).
+// before it, which is found by halves. Not here: where two records stand to each other (crate sorting_standing), how a number is put among others
+// (crate sorting_insert), how the order is printed (crate sorting_lines).
 use answers::Refusal;
 use labels::image::Judged;
 use sorting::span::Span;
@@ -10,7 +11,7 @@ ghost use Rattle.laws.specs.Writing.{front};
 ghost use Rattle.answers.specs.Checks.{passes};
 ghost use Rattle.labels.specs.Images.{takesImage, countOf};
 ghost use Rattle.sorting.specs.Sorting.{orderOf, Orders};
-ghost use Rattle.sorting.specs.Steps.{Between, Searchable, Halved, Placed, Inserted};
+ghost use Rattle.sorting.specs.Steps.{Between, Searchable, Halved, Placed};
 
 // One of the two halves.
 fn halved(image: &[u8], numbers: &[u32], count: usize, number: u32, span: Span) -> Span
@@ -46,20 +47,6 @@ fn place_of(image: &[u8], numbers: &[u32], count: usize, number: u32) -> usize
     span.low
 }
 
-// Puts a record at an index among the first `count` numbers; those behind it move up by one.
-fn insert(numbers: &mut [u32], count: usize, at: usize, number: u32)
-    requires { ⌜ at ≤ count ⌝ }
-    requires { ⌜ count < length (now numbers) ⌝ }
-    ensures { λ r. ⌜ Inserted (now (numbers .entry)) count at number (now (numbers .exit)) ⌝ }
-{
-    let mut to = count;
-    while at < to {
-        numbers[to] = numbers[to - 1];
-        to -= 1;
-    }
-    numbers[at] = number;
-}
-
 // Writes the order to the front of `out`, which has room for it.
 fn order_into(image: &[u8], count: usize, out: &mut [u32])
     requires { ⌜ count ≡ countOf (now image) ⌝ }
@@ -70,7 +57,7 @@ fn order_into(image: &[u8], count: usize, out: &mut [u32])
     let mut number: usize = 0;
     while number < count {
         let at = place_of(image, out, number, number as u32);
-        insert(out, number, at, number as u32);
+        sorting_insert::insert(out, number, at, number as u32);
         number += 1;
     }
 }

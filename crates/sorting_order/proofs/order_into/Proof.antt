@@ -35,14 +35,7 @@ cast-insert c =
     )
 
 insert-requires : tie.Need-insert-requires Inv-loop μ-loop
-insert-requires c κs = (
-  c .before .place-of .ensures .inside,
-  omega (
-    arith,
-    ordered-size _ _ {n = c .before .before .before .before .loop .number} (omega arith)
-        (c .before .before .before .before .loop .inv .1),
-  ),
-)
+insert-requires c κs = search needs
 
 add-number : tie.Need-add-number Inv-loop μ-loop
 add-number c = search needs
@@ -51,11 +44,12 @@ loop-less : tie.Need-loop-less Inv-loop μ-loop
 loop-less c = search needs
 
 loop-again : tie.Need-loop-again Inv-loop μ-loop
-loop-again c = (
-  omega arith,
-  ordered-more _ _ (omega arith) (c .before .before .before .before .before .before .before .loop .inv .1)
-      (c .before .before .before .before .place-of .ensures) (c .before .before .insert .ensures),
-)
+loop-again c =
+    let turn = c .before .before .before .before .before .before .before in
+    let place = c .before .before .before .before .place-of .ensures in
+    let sorted = turn .loop .inv .1 in
+    let inserted = c .before .before .insert .ensures (place .inside) (omega (arith, ordered-size _ _ {n = turn .loop .number} (omega arith) sorted)) in
+    (omega arith, ordered-more _ _ (omega arith) sorted place inserted)
 
 same-length : tie.Need-same-length Inv-loop μ-loop
 same-length c = ordered-size _ _ (omega arith) (c .before .loop .inv .1)

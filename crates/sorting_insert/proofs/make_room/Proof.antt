@@ -1,12 +1,12 @@
--- `sorting_order::insert` meets its contract. The loop keeps that those from `to` on have moved up by one (`Moving`).
+-- `sorting_insert::make_room` meets its contract. The loop keeps that those from `to` on have moved up by one (`Moving`).
 -- Assumes nothing.
 use Rattle.sorting.proofs.Placing.{Moving, moving-begin, moving-next, moving-length, moving-done}
 use lib.ListN.{length-set}
 use native.Mathlib.Omega.{arith}
 use Prim.Native.Nat.{_≤_}
 use borrow.Author.Needs.{needs}
-use Rattle.sorting_order.proofs.insert.Statement.{statement}
-use Rattle.sorting_order.proofs.insert.Tie as tie
+use Rattle.sorting_insert.proofs.make_room.Statement.{statement}
+use Rattle.sorting_insert.proofs.make_room.Tie as tie
 
 abbrev Inv-loop : tie.InvT-loop
 Inv-loop numbers₀ count at number to₀ numbers to = (at ≤ to) × Moving numbers₀ count to numbers
@@ -57,8 +57,8 @@ returns c =
     moving-done (c .before .before .pre .1) (c .before .loop .inv .1) (c .before .loop .inv .0) (omega arith)
     (c .before .before .args .number)
 
-pub insert-spec : {M : Type 1} → statement M
-insert-spec =
+pub make-room-spec : {M : Type 1} → statement M
+make-room-spec =
     tie.close
     (tie.spec
     Inv-loop

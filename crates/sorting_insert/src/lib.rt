@@ -1,0 +1,33 @@
+// Crate sorting_insert: a number put among others in a lent buffer.
+// Not here: which number, and where (crate sorting_order).
+ghost use Prim.Native.Nat.{_≤_, _<_};
+ghost use lib.ListN.{length};
+ghost use Rattle.sorting.specs.Steps.{Inserted};
+
+// The same where both are so.
+fn make_room(numbers: &mut [u32], count: usize, at: usize, number: u32)
+    requires { ⌜ at ≤ count ⌝ }
+    requires { ⌜ count < length (now numbers) ⌝ }
+    ensures { λ r. ⌜ Inserted (now (numbers .entry)) count at number (now (numbers .exit)) ⌝ }
+{
+    let mut to = count;
+    while at < to {
+        numbers[to] = numbers[to - 1];
+        to -= 1;
+    }
+    numbers[at] = number;
+}
+
+// Puts a number at an index among the first `count`; those behind it move up by one. Where the index
+// lies behind them, or there is no room for one more, nothing is written.
+pub fn insert(numbers: &mut [u32], count: usize, at: usize, number: u32)
+    ensures { λ r. ⌜ (at ≤ count → count < length (now (numbers .entry)) → Inserted (now (numbers .entry)) count at number (now (numbers .exit))) ⌝ }
+{
+    if count < at {
+        return;
+    }
+    if numbers.len() <= count {
+        return;
+    }
+    make_room(numbers, count, at, number);
+}
