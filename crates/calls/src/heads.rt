@@ -1,6 +1,7 @@
-// The head of a call: eight numbers, and the bounds of each kind.
-// Not here: the elements behind it.
+// The head of a call: eight numbers, the bounds of each kind, and how large what comes in and what is
+// lent are. Not here: the elements behind it.
 use crate::wire;
+ghost use Prim.Native.Nat.{_≤_};
 
 pub struct Head {
     pub kind: u32,
@@ -13,7 +14,7 @@ pub struct Head {
     pub second: usize,
 }
 
-pub fn read(bytes: &[u8]) -> Head {
+fn read(bytes: &[u8]) -> Head {
     Head {
         kind: wire::number(bytes, 0),
         x: wire::number(bytes, 1),
@@ -27,7 +28,7 @@ pub fn read(bytes: &[u8]) -> Head {
 }
 
 // Are the elements code points?
-pub fn is_of_text(kind: u32) -> bool {
+fn is_of_text(kind: u32) -> bool {
     match kind {
         1..=8 => true,
         11 => true,
@@ -67,7 +68,7 @@ fn is_kept(head: Head) -> bool {
 }
 
 // Does a call keep the bounds of its kind?
-pub fn is_good(head: Head) -> bool {
+fn is_good(head: Head) -> bool {
     if 120000 < head.room {
         return false;
     }
@@ -78,4 +79,95 @@ pub fn is_good(head: Head) -> bool {
         return false;
     }
     is_kept(head)
+}
+
+// Reads the next head. It is of kind 0, of which there is no call, where the input ends before or
+// the call does not keep the bounds of its kind.
+pub fn next() -> Head {
+    let mut bytes = [0u8; 32];
+    let size = io::read_full(libc::STDIN_FILENO, &mut bytes);
+    let head = read(&bytes);
+    if size == 32 && is_good(head) {
+        return head;
+    }
+    read(&bytes[..0])
+}
+
+// A size, or the most where it is larger: a good head has none that is.
+pub fn at_most(most: usize, size: usize) -> usize
+    ensures { λ r. ⌜ r ≤ most ⌝ }
+{
+    if size < most {
+        return size;
+    }
+    most
+}
+
+// How many elements come in, those of a and then those of b.
+fn elements(head: Head) -> usize
+    ensures { λ r. ⌜ r ≤ 86000 ⌝ }
+{
+    at_most(66000, head.first) + at_most(20000, head.second)
+}
+
+// How many code points come in.
+pub fn codes(head: Head) -> usize
+    ensures { λ r. ⌜ r ≤ 40000 ⌝ }
+{
+    if is_of_text(head.kind) {
+        return at_most(40000, elements(head));
+    }
+    0
+}
+
+// How many bytes come in, of code points as of bytes.
+pub fn size(head: Head) -> usize
+    ensures { λ r. ⌜ r ≤ 160000 ⌝ }
+{
+    if is_of_text(head.kind) {
+        return 4 * codes(head);
+    }
+    elements(head)
+}
+
+// Is what is lent code points?
+pub fn lends_codes(kind: u32) -> bool {
+    match kind {
+        1..=7 => true,
+        10 => true,
+        13 => true,
+        18 => true,
+        _ => false,
+    }
+}
+
+// How many code points are lent.
+pub fn room(head: Head) -> usize
+    ensures { λ r. ⌜ r ≤ 120000 ⌝ }
+{
+    if lends_codes(head.kind) {
+        return at_most(120000, head.room);
+    }
+    0
+}
+
+// How many bytes are lent: those of the image where a record is to be written.
+fn filled(head: Head) -> usize
+    ensures { λ r. ⌜ r ≤ 120000 ⌝ }
+{
+    if lends_codes(head.kind) {
+        return 0;
+    }
+    if head.kind == 19 {
+        return at_most(120000, head.first);
+    }
+    at_most(120000, head.room)
+}
+
+// Where the bytes that are written end: the answer's numbers stand before what is lent.
+pub fn end(head: Head) -> usize
+    ensures { λ r. ⌜ 16 ≤ r ⌝ }
+    ensures { λ r. ⌜ r ≤ 600016 ⌝ }
+{
+    16 + 4 * room(head) + filled(head)
 }

@@ -1,8 +1,10 @@
 // The kinds of call on the label file: 15 a fresh record, 16 reading one record, 17 reading a whole
 // image, 18 the order of its records, 19 writing a record. Not here: how a call comes in and an answer goes out.
 use crate::heads::Head;
+use crate::ranked;
 use crate::reply;
 use crate::reply::Reply;
+use crate::wire;
 use answers::Checked;
 use labels::image::Form;
 use labels::image::Found;
@@ -54,14 +56,17 @@ fn form_of(number: u32) -> Form {
     Form::Joined
 }
 
-pub fn write(head: Head, image: &mut [u8], label: &[u8]) -> Reply {
+// Writes a record to the image, which is copied to what is lent. The label comes in behind it.
+pub fn write(head: Head, both: &[u8], lent: &mut [u8]) -> Reply {
+    wire::copy(both, lent);
     let berth = (head.z % 0x1_0000) as u16;
+    let end = ranked::end_of(head.first, both.len());
     let answer = labels_writing::write_record(
-        image,
+        lent,
         head.x as usize,
         head.y,
         berth,
-        label,
+        &both[end..],
         form_of(head.w),
     );
     match answer {

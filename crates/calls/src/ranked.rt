@@ -14,7 +14,7 @@ fn replied(answer: Ranked) -> Reply {
 }
 
 // Where the first text ends, or where both end.
-fn end_of(first: usize, both: usize) -> usize
+pub fn end_of(first: usize, both: usize) -> usize
     ensures { λ r. ⌜ r ≤ both ⌝ }
 {
     if first < both {

@@ -33,10 +33,10 @@ pub fn put_number(value: u32, index: usize, bytes: &mut [u8]) {
     bytes[at + 3] = (value / 0x100_0000) as u8;
 }
 
-// Reads as many numbers as `out` has.
-pub fn numbers(bytes: &[u8], out: &mut [u32]) {
+// Reads `count` numbers, or as many as `out` has.
+pub fn numbers(bytes: &[u8], count: usize, out: &mut [u32]) {
     let mut i = 0;
-    while i < out.len() {
+    while i < out.len() && i < count {
         out[i] = number(bytes, i);
         i += 1;
     }
@@ -64,6 +64,15 @@ pub fn fill_bytes(out: &mut [u8]) {
     let mut i = 0;
     while i < out.len() {
         out[i] = 0xA5;
+        i += 1;
+    }
+}
+
+// Copies as many bytes as `out` has, or as there are.
+pub fn copy(bytes: &[u8], out: &mut [u8]) {
+    let mut i = 0;
+    while i < out.len() && i < bytes.len() {
+        out[i] = bytes[i];
         i += 1;
     }
 }
