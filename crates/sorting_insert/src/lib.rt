@@ -4,7 +4,8 @@ ghost use Prim.Native.Nat.{_≤_, _<_};
 ghost use lib.ListN.{length};
 ghost use Rattle.sorting.specs.Steps.{Inserted};
 
-// The same where both are so.
+// Puts a number at an index that does not lie behind the first `count`, where there is room for one
+// more: those from the index on move up by one.
 fn make_room(numbers: &mut [u32], count: usize, at: usize, number: u32)
     requires { ⌜ at ≤ count ⌝ }
     requires { ⌜ count < length (now numbers) ⌝ }
@@ -18,8 +19,8 @@ fn make_room(numbers: &mut [u32], count: usize, at: usize, number: u32)
     numbers[at] = number;
 }
 
-// Puts a number at an index among the first `count`; those behind it move up by one. Where the index
-// lies behind them, or there is no room for one more, nothing is written.
+// The same for every index and every count: where the index lies behind, or there is no room, nothing
+// is written.
 pub fn insert(numbers: &mut [u32], count: usize, at: usize, number: u32)
     ensures { λ r. ⌜ (at ≤ count → count < length (now (numbers .entry)) → Inserted (now (numbers .entry)) count at number (now (numbers .exit))) ⌝ }
 {
