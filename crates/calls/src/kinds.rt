@@ -26,7 +26,7 @@ fn formed(kind: u32, text: &[u32], lent: &mut [u32]) -> Filled {
 fn codes_to_codes(head: Head, text: &[u32], lent: &mut [u32]) -> Reply {
     let kind = head.kind;
     match kind {
-        1 => codes::sorted(letters::sort::sorter(head.x)),
+        1 => codes::sorted(letters_sort::sorter(head.x)),
         2 => codes::stepped(letters_step::one_step(head.x)),
         13 => ranked::codes(text, head.first),
         _ => reply::filled(formed(kind, text, lent)),

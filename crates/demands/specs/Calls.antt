@@ -108,11 +108,11 @@ CheckBytes =
 
 -- ---- letters
 
--- `letters::sort::sort_of`
+-- `letters_sort::sort_of`
 abbrev pub SortOf : Type 0
 SortOf = (code : ℕ) (r : Sort) → r ≡ sortOf code → Answers (sortOf code) r
 
--- `letters::sort::sorter`: 2
+-- `letters_sort::sorter`: 2
 abbrev pub Sorter : Type 0
 Sorter =
     (code : ℕ) (r : Sorted) → sorted r ≡ verdict (badCodePoint (code ∷ [])) (sortOf code)

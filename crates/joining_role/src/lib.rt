@@ -1,6 +1,5 @@
 // What a code point is to the joiner, and which two neighbours join: the one place where joining looks at a sort (document 01, 'Syllables').
 // Not here: what is open (crate joining).
-use letters::sort;
 use letters::sort::Sort;
 ghost use mathlib.Core.Path.{_≡_};
 ghost use Rattle.joining_role.specs.Roles.{roleOf, pair, pairAs};
@@ -17,7 +16,7 @@ pub enum Role {
 pub fn role_of(code: u32) -> Role
     ensures { λ r. ⌜ r ≡ roleOf code ⌝ }
 {
-    let sort = sort::sort_of(code);
+    let sort = letters_sort::sort_of(code);
     match sort {
         Sort::ModernInitial => Role::Initial,
         Sort::ModernPeak => Role::Peak,

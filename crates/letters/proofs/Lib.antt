@@ -1,5 +1,5 @@
 -- Crate letters, proofs/: the laws of the sorts, the one step, full parts, the Standard's terms, and that the readings are injective, lowest first.
--- Not here: the sorts' counts (crate letters_counts), the definitions (specs/), and the proofs of the functions, which stand in folders of their own.
+-- Not here: the sorts' counts (crate letters_counts), the definitions (specs/), and any function: the sorter has crate letters_sort.
 pub mod Sorts
 pub mod Steps
 pub mod Parts

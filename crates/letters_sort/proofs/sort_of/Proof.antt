@@ -1,9 +1,9 @@
--- `letters::sort::sort_of` meets its contract: at each return the bounds are known that the number lies between, and `sort-between` says
+-- `letters_sort::sort_of` meets its contract: at each return the bounds are known that the number lies between, and `sort-between` says
 -- what the ranges give there. Assumes nothing.
 use native.Mathlib.Omega.{arith}
 use Rattle.letters.proofs.Sorts.{sort-between, sort-lv, sort-lvt}
-use Rattle.letters.proofs.sort.sort_of.Statement.{statement}
-use Rattle.letters.proofs.sort.sort_of.Tie as tie
+use Rattle.letters_sort.proofs.sort_of.Statement.{statement}
+use Rattle.letters_sort.proofs.sort_of.Tie as tie
 
 returns : tie.Need-returns
 returns c = sort-between 0x115F 0x115F tt (omega arith) (omega arith)

@@ -1,10 +1,10 @@
--- `letters::sort::sorter` meets its contract: 2 where the code point is bad, else its sort.
+-- `letters_sort::sorter` meets its contract: 2 where the code point is bad, else its sort.
 -- Assumes nothing.
 use Rattle.letters.specs.Sorts.{sortOf}
 use Rattle.answers.proofs.Verdicts.{refused-code, done-code}
 use borrow.Author.Needs.{needs}
-use Rattle.letters.proofs.sort.sorter.Statement.{statement}
-use Rattle.letters.proofs.sort.sorter.Tie as tie
+use Rattle.letters_sort.proofs.sorter.Statement.{statement}
+use Rattle.letters_sort.proofs.sorter.Tie as tie
 
 is-bad-requires : tie.Need-is-bad-requires
 is-bad-requires c κs = search needs
