@@ -1,5 +1,5 @@
 -- The general laws behind demand 1: a call that answers by its checks in order, and leaves its buffer by them, keeps the demand; and the demand leaves it
--- no choice. Not here: the calls (proofs/Calls), each check by itself (crate answers, proofs/Checks).
+-- no choice. Not here: the calls (crate demands_calls), each check by itself (crate answers, proofs/Checks).
 --
 -- In order: checks in order (`flattened`); what is left by a check (`kept`, `after-kept`); FROM THE CONTRACT TO THE DEMAND (`demanded`): of a call that
 -- is lent nothing (`answered`, `answered-one`), that refuses nothing (`answers-done`), that fills a lent buffer (`filled-demanded`, `filled-alone`);

@@ -2,6 +2,5 @@
 -- Not here: an argument of its own, but that checks in order say what `Demand1` says (proofs/Demand1). Assumes nothing.
 pub mod Accident
 pub mod Demand1
-pub mod Calls
 pub mod Demand2
 pub mod Demand3

@@ -1,6 +1,6 @@
 -- Demand 1, at every public call: a row for each, the name of the call, what it is given, what its contract says of its results, and `Demand1` with its
--- checks in document 01's order. The contract of a row is that of the code, word for word (tests/promises compares them). Not here: the checks, and
--- what the calls make (the crates below). Assumes nothing.
+-- checks in document 01's order. The contract of a row is that of the code, word for word (tests/promises compares them). Not here: `Demand1` (crate
+-- demands), the checks, and what the calls make (the crates below). Assumes nothing.
 use mathlib.Core.Path.{_≡_}
 use mathlib.Core.Bool.{Bool}
 use mathlib.Core.List.{List, [], _∷_}

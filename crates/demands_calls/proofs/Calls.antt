@@ -1,5 +1,5 @@
 -- Demand 1 holds of every public call: a term for each row of specs/Calls, in the same order and under the same headings, by the law of its shape.
--- Not here: the laws over any checks (proofs/Demand1).
+-- Not here: the laws over any checks (crate demands, proofs/Demand1).
 --
 -- Before the rows: a check and an image left by it in the words of the other crates (`as-verdict`, `changed-kept`); answers for C, where 0 says that
 -- the call is done, and no refusal has that number (`Numbered`, `ForC`). Assumes nothing.
@@ -31,9 +31,9 @@ use Rattle.labels.specs.Records.{layout}
 use Rattle.labels.specs.Images.{countOf, recordAt, overImage, noImage, noRecord, layoutsFrom, takesRecord, takesImage, noLabel, takesWriting, changed}
 use Rattle.pulphopper.specs.Replies.{countedAnswer, plainAnswer, orderAnswer}
 use Rattle.pulphopper_answer.specs.declared.Answer.{Answer}
 use Rattle.demands.specs.Demand1.{Demand1}
-use Rattle.demands.specs.Calls as rows
+use Rattle.demands_calls.specs.Calls as rows
 use Rattle.demands.proofs.Demand1.{kept, after-kept, demanded, answered, answered-one, answers-done, filled-demanded, filled-alone}
 
 -- ---- in the words of the other crates
 
