@@ -5,7 +5,6 @@ use answers::Filled;
 use answers::Refusal;
 use clusters::gathering::Pending;
 use clusters_writing::Writer;
-use joining::joiner::Joiner;
 ghost use mathlib.Core.Path.{_≡_};
 ghost use Prim.Native.Nat.{_≤_};
 ghost use lib.ListN.{length};
@@ -24,7 +23,7 @@ fn writer_at(at: usize) -> Writer
 {
     Writer {
         pending: Pending::Nothing,
-        joiner: Joiner::new(),
+        joiner: joining_step::start(),
         at: at,
     }
 }

@@ -26,7 +26,7 @@ fn put_code(writer: Writer, code: u32, out: &mut [u32]) -> Writer
 {
     let pending = writer.pending;
     let before = writer.joiner;
-    let step = before.step(code);
+    let step = joining_step::step(before, code);
     let next = step.joiner;
     let emit = step.out;
     Writer {
@@ -102,5 +102,5 @@ pub fn put_rest(writer: Writer, table: &[u16], out: &mut [u32]) -> usize
     let pending = writer.pending;
     let next = put_codes(writer, clusters_gathering::flush(pending, table), out);
     let last = next.joiner;
-    joining_put::put(last.flush(), out, next.at)
+    joining_put::put(joining_step::flush(last), out, next.at)
 }

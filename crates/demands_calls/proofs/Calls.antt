@@ -172,14 +172,14 @@ role-of code r e = answers-done e
 pub joined : rows.Joined
 joined first second r e = answers-done e
 
-pub new : rows.New
-new r e = answers-done e
+pub start : rows.Start
+start r e = answers-done e
 
 pub steps : rows.Steps
-steps self code r h = answers-done (rw (h .opens, h .writes))
+steps joiner code r h = answers-done (rw (h .opens, h .writes))
 
 pub flush : rows.Flush
-flush self r e = answers-done e
+flush joiner r e = answers-done e
 
 pub join : rows.Join
 join = of-text joins

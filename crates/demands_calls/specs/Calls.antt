@@ -155,19 +155,19 @@ RoleOf = (code : ℕ) (r : Role) → r ≡ roleOf code → Answers (roleOf code)
 abbrev pub Joined : Type 0
 Joined = (first second : ℕ) (r : ℕ) → r ≡ pair first second → Answers (pair first second) r
 
--- `joining::joiner::new`
-abbrev pub New : Type 0
-New = (r : Joiner) → r .state ≡ Nothing → Answers Nothing (r .state)
+-- `joining_step::start`
+abbrev pub Start : Type 0
+Start = (r : Joiner) → r .state ≡ Nothing → Answers Nothing (r .state)
 
--- `joining::joiner::step`
+-- `joining_step::step`
 abbrev pub Steps : Type 0
 Steps =
-    (self : Joiner) (code : ℕ) (r : Step) → Stepped (self .state) code r
-    → Answers {Value = Open × List ℕ} (joinStep (self .state) code, joinEmit (self .state) code) (r .joiner .state, emitted (r .out))
+    (joiner : Joiner) (code : ℕ) (r : Step) → Stepped (joiner .state) code r
+    → Answers {Value = Open × List ℕ} (joinStep (joiner .state) code, joinEmit (joiner .state) code) (r .joiner .state, emitted (r .out))
 
--- `joining::joiner::flush`
+-- `joining_step::flush`
 abbrev pub Flush : Type 0
-Flush = (self : Joiner) (r : Emitted) → emitted r ≡ held (self .state) → Answers (held (self .state)) (emitted r)
+Flush = (joiner : Joiner) (r : Emitted) → emitted r ≡ held (joiner .state) → Answers (held (joiner .state)) (emitted r)
 
 -- `joining_text::join`: 1, 2, 3
 abbrev pub Join : Type 0

@@ -1,5 +1,5 @@
 // Crate joining_put: what a step of the joiner wrote, none, one or two code points, put into a buffer.
-// Not here: the step (crate joining), whole texts (crates joining_text, clusters_gathered).
+// Not here: the step (crate joining_step), whole texts (crates joining_text, clusters_gathered).
 use joining::joiner::Emitted;
 ghost use Rattle.laws.specs.Writing.{Room, Wrote};
 ghost use Rattle.joining.specs.Steps.{emitted};

@@ -1,10 +1,9 @@
 // Joining a text of code points into a lent buffer (document 01, 'Syllables').
-// Not here: the definitions, and the joiner's step (crate joining), what a step wrote put into a buffer (joining_put).
+// Not here: the definitions (crate joining), the joiner's step (joining_step), what a step wrote put into a buffer (joining_put).
 use answers::Checked;
 use answers::Filled;
 use answers::Refusal;
 use joining::joiner::Emitted;
-use joining::joiner::Joiner;
 ghost use mathlib.Core.Path.{_≡_};
 ghost use Prim.Native.Nat.{_≤_};
 ghost use lib.ListN.{length};
@@ -30,17 +29,17 @@ fn joined_count(text: &[u32]) -> usize
     requires { ⌜ length (now text) ≤ 16384 ⌝ }
     ensures { λ r. ⌜ r ≡ length (join (now (text .entry))) ⌝ }
 {
-    let mut joiner = Joiner::new();
+    let mut joiner = joining_step::start();
     let mut count: usize = 0;
     let mut i = 0;
     while i < text.len() {
-        let step = joiner.step(text[i]);
+        let step = joining_step::step(joiner, text[i]);
         joiner = step.joiner;
         let out = step.out;
         count += count_of(out);
         i += 1;
     }
-    count + count_of(joiner.flush())
+    count + count_of(joining_step::flush(joiner))
 }
 
 // The length needed where `room` does not do, else 0. As much as the text has always does, and then
@@ -64,17 +63,17 @@ fn write_joined(text: &[u32], out: &mut [u32]) -> usize
     requires { ⌜ length (join (now text)) ≤ length (now out) ⌝ }
     ensures { λ r. ⌜ Fronts (join (now (text .entry))) (now (out .entry)) r (now (out .exit)) ⌝ }
 {
-    let mut joiner = Joiner::new();
+    let mut joiner = joining_step::start();
     let mut at: usize = 0;
     let mut read = 0;
     while read < text.len() {
-        let step = joiner.step(text[read]);
+        let step = joining_step::step(joiner, text[read]);
         joiner = step.joiner;
         let emit = step.out;
         at = joining_put::put(emit, out, at);
         read += 1;
     }
-    joining_put::put(joiner.flush(), out, at)
+    joining_put::put(joining_step::flush(joiner), out, at)
 }
 
 // A text that has passed its checks: refusal 3 or done.

@@ -6,11 +6,11 @@ use borrow.Author.Needs.{needs}
 use Rattle.clusters_gathered.proofs.writer_at.Statement.{statement}
 use Rattle.clusters_gathered.proofs.writer_at.Tie as tie
 
-new-requires : tie.Need-new-requires
-new-requires c κs = search needs
+start-requires : tie.Need-start-requires
+start-requires c κs = search needs
 
 returns : tie.Need-returns
-returns c = (start-state (c .new .ensures), refl)
+returns c = (start-state (c .start .ensures), refl)
 
 pub writer-at-spec : {M : Type 1} → statement M
-writer-at-spec = tie.close (tie.spec new-requires returns)
+writer-at-spec = tie.close (tie.spec start-requires returns)

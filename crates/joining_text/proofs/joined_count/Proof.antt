@@ -19,11 +19,11 @@ Inv-loop text joiner₀ count₀ i₀ joiner count i =
 abbrev μ-loop : tie.MeasureT-loop
 μ-loop text joiner₀ count₀ i₀ joiner count i = length text - i
 
-new-requires : tie.Need-new-requires Inv-loop μ-loop
-new-requires c κs = search needs
+start-requires : tie.Need-start-requires Inv-loop μ-loop
+start-requires c κs = search needs
 
 loop-holds : tie.Need-loop-holds Inv-loop μ-loop
-loop-holds c = (search needs, counting-begin (join-begin (c .before .before .args .text .now) (c .new .ensures)))
+loop-holds c = (search needs, counting-begin (join-begin (c .before .before .args .text .now) (c .start .ensures)))
 
 mul-step : tie.Need-mul-step Inv-loop μ-loop
 mul-step c = search needs
@@ -87,7 +87,7 @@ joined-count-spec =
     (tie.spec
     Inv-loop
     μ-loop
-    new-requires
+    start-requires
     loop-holds
     mul-step
     shared-slice-read-step

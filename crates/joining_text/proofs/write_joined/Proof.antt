@@ -18,11 +18,11 @@ Inv-loop text out₀ joiner₀ at₀ read₀ out joiner at read =
 abbrev μ-loop : tie.MeasureT-loop
 μ-loop text out₀ joiner₀ at₀ read₀ out joiner at read = length text - read
 
-new-requires : tie.Need-new-requires Inv-loop μ-loop
-new-requires c κs = search needs
+start-requires : tie.Need-start-requires Inv-loop μ-loop
+start-requires c κs = search needs
 
 loop-holds : tie.Need-loop-holds Inv-loop μ-loop
-loop-holds c = (search needs, filling-begin _ (join-begin (c .before .before .before .args .text .now) (c .new .ensures)))
+loop-holds c = (search needs, filling-begin _ (join-begin (c .before .before .before .args .text .now) (c .start .ensures)))
 
 mul-step : tie.Need-mul-step Inv-loop μ-loop
 mul-step c = search needs
@@ -76,7 +76,7 @@ write-joined-spec =
     (tie.spec
     Inv-loop
     μ-loop
-    new-requires
+    start-requires
     loop-holds
     mul-step
     shared-slice-read-step

@@ -1,11 +1,11 @@
--- `joining::joiner::met` meets its contract: each return knows what is open.
+-- `joining_step::met` meets its contract: each return knows what is open.
 -- Assumes nothing.
 use Rattle.joining.specs.Joining.{meets}
 use Rattle.joining.specs.declared.joiner.Open.{Open}
 use mathlib.Core.Path.{sym, _∙_, ap}
 use borrow.Author.Needs.{needs}
-use Rattle.joining.proofs.joiner.met.Statement.{statement}
-use Rattle.joining.proofs.joiner.met.Tie as tie
+use Rattle.joining_step.proofs.met.Statement.{statement}
+use Rattle.joining_step.proofs.met.Tie as tie
 
 enum-told : tie.Need-enum-told
 enum-told c = search needs

@@ -1,10 +1,10 @@
--- `joining::joiner::written` meets its contract: each return knows what is open.
+-- `joining_step::written` meets its contract: each return knows what is open.
 -- Assumes nothing.
 use Rattle.joining.specs.Joining.{held}
 use mathlib.Core.Path.{sym, _∙_, ap}
 use borrow.Author.Needs.{needs}
-use Rattle.joining.proofs.joiner.written.Statement.{statement}
-use Rattle.joining.proofs.joiner.written.Tie as tie
+use Rattle.joining_step.proofs.written.Statement.{statement}
+use Rattle.joining_step.proofs.written.Tie as tie
 
 enum-told : tie.Need-enum-told
 enum-told c = search needs

@@ -1,12 +1,12 @@
--- `joining::joiner::written_before` meets its contract: each return knows what is open.
+-- `joining_step::written_before` meets its contract: each return knows what is open.
 -- Assumes nothing.
 use Rattle.joining.specs.Joining.{held}
 use mathlib.Core.List.{[], _∷_, _++_}
 use Rattle.joining.specs.declared.joiner.Open.{Open}
 use mathlib.Core.Path.{sym, _∙_, ap}
 use borrow.Author.Needs.{needs}
-use Rattle.joining.proofs.joiner.written_before.Statement.{statement}
-use Rattle.joining.proofs.joiner.written_before.Tie as tie
+use Rattle.joining_step.proofs.written_before.Statement.{statement}
+use Rattle.joining_step.proofs.written_before.Tie as tie
 
 enum-told : tie.Need-enum-told
 enum-told c = search needs

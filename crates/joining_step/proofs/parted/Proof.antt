@@ -1,12 +1,12 @@
--- `joining::joiner::parted` meets its contract: each return knows what is open next.
+-- `joining_step::parted` meets its contract: each return knows what is open next.
 -- Assumes nothing.
 use Rattle.joining.specs.Joining.{held, unless}
 use mathlib.Core.List.{_++_, append-nil}
 use Rattle.joining.specs.declared.joiner.Open.{Open}
 use mathlib.Core.Path.{sym, _∙_, ap}
 use borrow.Author.Needs.{needs}
-use Rattle.joining.proofs.joiner.parted.Statement.{statement}
-use Rattle.joining.proofs.joiner.parted.Tie as tie
+use Rattle.joining_step.proofs.parted.Statement.{statement}
+use Rattle.joining_step.proofs.parted.Tie as tie
 
 enum-told : tie.Need-enum-told
 enum-told c = search needs

@@ -1,10 +1,10 @@
--- `joining::joiner::opened` meets its contract: each return knows the role of the code point.
+-- `joining_step::opened` meets its contract: each return knows the role of the code point.
 -- Assumes nothing.
 use Rattle.joining.proofs.Joins.{opens-as}
 use mathlib.Core.Path.{sym, _∙_, ap}
 use borrow.Author.Needs.{needs}
-use Rattle.joining.proofs.joiner.opened.Statement.{statement}
-use Rattle.joining.proofs.joiner.opened.Tie as tie
+use Rattle.joining_step.proofs.opened.Statement.{statement}
+use Rattle.joining_step.proofs.opened.Tie as tie
 
 role-of-requires : tie.Need-role-of-requires
 role-of-requires c κs = search needs

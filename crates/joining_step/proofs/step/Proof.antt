@@ -1,9 +1,9 @@
--- `joining::joiner::Joiner::step` meets its contract: what is open and the code point join, or they do not.
+-- `joining_step::step` meets its contract: what is open and the code point join, or they do not.
 -- Assumes nothing.
-use Rattle.joining.proofs.Stepping.{stepped-apart, stepped-joined}
+use Rattle.joining_step.proofs.Stepping.{stepped-apart, stepped-joined}
 use borrow.Author.Needs.{needs}
-use Rattle.joining.proofs.joiner.Joiner.step.Statement.{statement}
-use Rattle.joining.proofs.joiner.Joiner.step.Tie as tie
+use Rattle.joining_step.proofs.step.Statement.{statement}
+use Rattle.joining_step.proofs.step.Tie as tie
 
 met-requires : tie.Need-met-requires
 met-requires c κs = search needs
