@@ -19,7 +19,7 @@ use Rattle.letters.specs.Syllables.{isSyllable, oneStep, partsTo}
 use Rattle.letters.specs.declared.step.Parts.the-variants.{One as OnePart}
 use Rattle.letters.proofs.Steps.{step-other, syllable-below}
 use Rattle.letters.proofs.Parts.{Closed}
-use Rattle.joining_role.specs.Roles.{roleOf, pair}
+use Rattle.joining.specs.Roles.{roleOf, pair}
 use Rattle.joining.specs.Joining.{join, joiner, opens}
 use Rattle.joining.specs.declared.joiner.Open.the-variants.{Nothing as NothingOpen}
 use Rattle.joining.proofs.Joins.{join-most}

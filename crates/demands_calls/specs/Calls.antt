@@ -23,8 +23,8 @@ use Rattle.letters.specs.declared.sort.Sort.{Sort}
 use Rattle.letters.specs.declared.sort.Sorted.{Sorted}
 use Rattle.letters.specs.declared.step.Parts.{Parts}
 use Rattle.letters.specs.declared.step.Stepped.{Stepped as OneStepped}
-use Rattle.joining_role.specs.Roles.{roleOf, pair}
-use Rattle.joining_role.specs.declared.Role.{Role}
+use Rattle.joining.specs.Roles.{roleOf, pair}
+use Rattle.joining.specs.declared.role.Role.{Role}
 use Rattle.joining.specs.Joining.{joinStep, joinEmit, held, join}
 use Rattle.joining.specs.Steps.{emitted, Stepped}
 use Rattle.joining.specs.declared.joiner.Joiner.{Joiner}

@@ -7,7 +7,7 @@ use Rattle.laws.specs.Ranges.{within}
 use Rattle.answers.specs.Checks.{overLimit, bad, firstBad, badCodePoint, takesText, takesBytes}
 use Rattle.letters.specs.Sorts.{sortOf}
 use Rattle.letters.specs.Syllables.{isSyllable, oneStep, partsTo}
-use Rattle.joining_role.specs.Roles.{roleOf, pair}
+use Rattle.joining.specs.Roles.{roleOf, pair}
 use Rattle.joining.specs.Joining.{opens}
 use Rattle.utf8.specs.Table37.{rowOf}
 use Rattle.names.specs.Names.{initials, peaks, finals, prefix, nameBy, namedFrom, named}

@@ -1,5 +1,5 @@
 -- Laws of the joiner and of the joined text, for every text of any numbers. What joins are neighbours, from the left to the right; where a text may be
--- cut; that joining and taking apart undo each other; how long a joined text is. Not here: which two join (crate joining_role, proofs/Pairs), a loop over
+-- cut; that joining and taking apart undo each other; how long a joined text is. Not here: which two join (proofs/Pairs), a loop over
 -- a buffer, and the Standard's canonical composition (crate normal).
 --
 -- In order: one step of the joiner (`step-apart`, `emit-apart`, `step-joined`, `emit-joined`); what a code point leaves open (`opens-as`, `meets-pair`,
@@ -24,13 +24,13 @@ use Rattle.laws.proofs.Lists.{each-each, each-alone, all-of}
 use Rattle.laws.proofs.Machines.{from-append, cut, around, same-whole}
 use Rattle.answers.specs.Checks.{bad}
 use Rattle.letters.specs.Syllables.{oneStep, partsTo, fullParts}
-use Rattle.joining_role.specs.declared.Role.{Role}
-use Rattle.joining_role.specs.declared.Role.the-variants.{Initial as RoleInitial, Peak, Final, Lv as RoleLv, None}
-use Rattle.joining_role.specs.Roles.{roleOf, pair}
-use Rattle.joining_role.specs.Roles.{Hard}
-use Rattle.joining_role.proofs.Roles.{role-between, firm, hard-as}
-use Rattle.joining_role.proofs.Pairs.{pair-as, by-pair, pair-before, two-letters, three-letters, lv-made, lvt-made, pair-good, step-pair, by-parts}
-use Rattle.joining_role.proofs.Pairs.{pair-parts, no-fourth}
+use Rattle.joining.specs.declared.role.Role.{Role}
+use Rattle.joining.specs.declared.role.Role.the-variants.{Initial as RoleInitial, Peak, Final, Lv as RoleLv, None}
+use Rattle.joining.specs.Roles.{roleOf, pair}
+use Rattle.joining.specs.Roles.{Hard}
+use Rattle.joining.proofs.Roles.{role-between, firm, hard-as}
+use Rattle.joining.proofs.Pairs.{pair-as, by-pair, pair-before, two-letters, three-letters, lv-made, lvt-made, pair-good, step-pair, by-parts}
+use Rattle.joining.proofs.Pairs.{pair-parts, no-fourth}
 use Rattle.joining.specs.declared.joiner.Open.{Open}
 use Rattle.joining.specs.declared.joiner.Open.the-variants.{Nothing, Initial, Lv}
 use Rattle.joining.specs.Joining.{opensAs, opens, held, meets, unless, joinStep, joinEmit, joiner, join}

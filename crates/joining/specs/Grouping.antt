@@ -4,7 +4,7 @@
 use mathlib.Core.Path.{_≡_}
 use mathlib.Core.List.{List, [], _∷_}
 use Prim.Native.Nat.{ℕ}
-use Rattle.joining_role.specs.Roles.{pair}
+use Rattle.joining.specs.Roles.{pair}
 
 pub data Grouped : List ℕ → List ℕ → Type 0 where
   none : Grouped [] []

@@ -1,14 +1,14 @@
 -- Joining: document 01, 'Syllables'. The joiner as a machine that reads a text from the left and carries what is still open: nothing, an initial, or an LV.
--- Not here: what a code point is to the joiner, and which two neighbours join (crate joining_role); the Standard's own definition of canonical
+-- Not here: what a code point is to the joiner, and which two neighbours join (specs/Roles); the Standard's own definition of canonical
 -- composition (crate normal), which is shown to give the same. Assumes nothing.
 use mathlib.Core.Bool.{cond}
 use mathlib.Core.List.{List, [], _∷_, _++_}
 use Prim.Native.Nat.{ℕ}
 use lib.Dec.{eqb}
 use Rattle.laws.specs.Machines.{Machine, whole}
-use Rattle.joining_role.specs.declared.Role.{Role}
-use Rattle.joining_role.specs.declared.Role.the-variants.{Initial as RoleInitial, Peak, Final, Lv as RoleLv, None}
-use Rattle.joining_role.specs.Roles.{roleOf, pair}
+use Rattle.joining.specs.declared.role.Role.{Role}
+use Rattle.joining.specs.declared.role.Role.the-variants.{Initial as RoleInitial, Peak, Final, Lv as RoleLv, None}
+use Rattle.joining.specs.Roles.{roleOf, pair}
 use Rattle.joining.specs.declared.joiner.Open.{Open}
 use Rattle.joining.specs.declared.joiner.Open.the-variants.{Nothing, Initial, Lv}
 

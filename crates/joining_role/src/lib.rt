@@ -1,17 +1,10 @@
-// What a code point is to the joiner, and which two neighbours join: the one place where joining looks at a sort (document 01, 'Syllables').
-// Not here: what is open (crate joining).
+// What a code point is to the joiner, and what two neighbours join to: the one place where joining looks at a sort (document 01, 'Syllables').
+// Not here: the definitions, laws and types (crate joining), what is open (crate joining_step).
+use joining::role::Role;
 use letters::sort::Sort;
 ghost use mathlib.Core.Path.{_≡_};
-ghost use Rattle.joining_role.specs.Roles.{roleOf, pair, pairAs};
-ghost use Rattle.joining_role.specs.declared.Role.the-variants.{Peak, Final};
-
-pub enum Role {
-    Initial,
-    Peak,
-    Final,
-    Lv,
-    None,
-}
+ghost use Rattle.joining.specs.Roles.{roleOf, pair, pairAs};
+ghost use Rattle.joining.specs.declared.role.Role.the-variants.{Peak, Final};
 
 pub fn role_of(code: u32) -> Role
     ensures { λ r. ⌜ r ≡ roleOf code ⌝ }

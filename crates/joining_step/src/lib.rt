@@ -1,10 +1,10 @@
 // Crate joining_step: the joiner's step over values, any joiner and any number: what is open goes in and comes back (document 01, 'Syllables').
-// Not here: the definitions, laws and types (crate joining), which two neighbours join (crate joining_role), a whole text (crate joining_text).
+// Not here: the definitions, laws and types (crate joining), two neighbours joined (crate joining_role), a whole text (crate joining_text).
 use joining::joiner::Emitted;
 use joining::joiner::Joiner;
 use joining::joiner::Open;
 use joining::joiner::Step;
-use joining_role::Role;
+use joining::role::Role;
 ghost use mathlib.Core.Path.{_≡_};
 ghost use mathlib.Core.List.{_++_};
 ghost use Rattle.joining.specs.Joining.{opens, held, meets, unless};

@@ -21,9 +21,9 @@ use Rattle.laws.specs.Damage.{codes}
 use Rattle.laws.proofs.Lists.{each-nil, each-cons}
 use Rattle.answers.specs.Checks.{bad}
 use Rattle.letters.proofs.Steps.{syllable-least, syllable-most}
-use Rattle.joining_role.specs.Roles.{pair}
-use Rattle.joining_role.proofs.Roles.{peak-range, final-range}
-use Rattle.joining_role.proofs.Pairs.{by-pair, pair-syllable, pair-good}
+use Rattle.joining.specs.Roles.{pair}
+use Rattle.joining.proofs.Roles.{peak-range, final-range}
+use Rattle.joining.proofs.Pairs.{by-pair, pair-syllable, pair-good}
 use Rattle.joining.specs.Joining.{join}
 use Rattle.joining.specs.Grouping.{Grouped, none, alone, two, three}
 use Rattle.joining.proofs.Joins.{neighbours}

@@ -18,10 +18,10 @@ use Rattle.laws.specs.Damage.{codes, codeOf}
 use Rattle.laws.proofs.Bools.{test}
 use Rattle.laws.proofs.Lists.{each-cons}
 use Rattle.answers.specs.Checks.{bad}
-use Rattle.joining_role.specs.Roles.{roleOf, pair}
-use Rattle.joining_role.specs.declared.Role.the-variants.{Initial, Peak, Final, Lv, None}
-use Rattle.joining_role.proofs.Roles.{role-between, by-role}
-use Rattle.joining_role.proofs.Pairs.{pair-firm, pair-behind, pair-good, no-fourth}
+use Rattle.joining.specs.Roles.{roleOf, pair}
+use Rattle.joining.specs.declared.role.Role.the-variants.{Initial, Peak, Final, Lv, None}
+use Rattle.joining.proofs.Roles.{role-between, by-role}
+use Rattle.joining.proofs.Pairs.{pair-firm, pair-behind, pair-good, no-fourth}
 use Rattle.joining.specs.Joining.{join}
 use Rattle.joining.proofs.Joins.{join-one, join-apart, join-joined}
 use Rattle.utf8.specs.Table37.{kindOf}

@@ -22,7 +22,7 @@ use Rattle.laws.proofs.Places.{ending-place, beginning-place}
 use Rattle.laws.proofs.Damage.{keeps, around-ill}
 use Rattle.answers.proofs.Checks.{bytes-short}
 use Rattle.answers.proofs.Verdicts.{fills-done}
-use Rattle.joining_role.specs.Roles.{Hard}
+use Rattle.joining.specs.Roles.{Hard}
 use Rattle.joining.specs.Joining.{join}
 use Rattle.joining.proofs.Joins.{join-one, join-cut, mark-around}
 use Rattle.utf8.specs.Table37.{kindOf}

@@ -2,7 +2,7 @@
 -- (`stray-character`), of one before a second byte that continues nothing (`second-character`), and of two before such a third (`third-character`); a
 -- modern peak by its tail (`peak-none`, `peak-test`); the letter of a tail (`of-tail`, `letter-triple`), which is a character where it is no modern
 -- initial or has no modern peak behind it (`letter-character`).
--- Not here: the rows of bytes (crate utf8, proofs/Rows), which letters join (crate joining_role, proofs/Pairs), syllables in letters (proofs/Spelling).
+-- Not here: the rows of bytes (crate utf8, proofs/Rows), which letters join (crate joining, proofs/Pairs), syllables in letters (proofs/Spelling).
 -- Assumes nothing.
 use mathlib.Core.Path.{_≡_, refl, sym, _∙_, ap}
 use mathlib.Core.Bool.{true, false, false≢true}
@@ -17,9 +17,9 @@ use Rattle.laws.specs.Pieces.{pieces}
 use Rattle.laws.proofs.Bools.{test}
 use Rattle.laws.proofs.Ranges.{within-yes, within-least, within-most}
 use Rattle.letters.proofs.Steps.{syllable-least}
-use Rattle.joining_role.specs.Roles.{pair}
-use Rattle.joining_role.proofs.Roles.{role-between, initial-range, peak-range, lv-syllable}
-use Rattle.joining_role.proofs.Pairs.{pair-other}
+use Rattle.joining.specs.Roles.{pair}
+use Rattle.joining.proofs.Roles.{role-between, initial-range, peak-range, lv-syllable}
+use Rattle.joining.proofs.Pairs.{pair-other}
 use Rattle.utf8.specs.Table37.{_to_, continuation, kindOf}
 use Rattle.utf8.specs.Reading.{goodOf, illOf, takenFrom}
 use Rattle.utf8.specs.declared.read.Taken.{Taken}

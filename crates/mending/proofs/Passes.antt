@@ -24,9 +24,9 @@ use Rattle.laws.specs.Pieces.{Piece, full, good, pieces}
 use Rattle.laws.specs.Readings.{Reading, nothing, formed, broken}
 use Rattle.laws.proofs.Bools.{test}
 use Rattle.laws.proofs.Ranges.{within-least, within-most}
-use Rattle.joining_role.specs.Roles.{pair}
-use Rattle.joining_role.proofs.Roles.{role-between, peak-range, final-range}
-use Rattle.joining_role.proofs.Pairs.{pair-before, pair-none}
+use Rattle.joining.specs.Roles.{pair}
+use Rattle.joining.proofs.Roles.{role-between, peak-range, final-range}
+use Rattle.joining.proofs.Pairs.{pair-before, pair-none}
 use Rattle.utf8.specs.Table37.{kindOf}
 use Rattle.utf8.specs.Utf8.{valueOf}
 use Rattle.utf8.specs.Reading.{goodOf}

@@ -2,7 +2,7 @@
 -- `letter-bytes`, `bytes-letter`); a letter by its tail (`tail-short`, `tail-other`, `tail-three`); F of a final (`final-low`,
 -- `final-high`, `final-none`); a character that takes in what is read behind it (`first-grown`, `grown-takes`, `grown-stays`); and a syllable of two
 -- letters and of three (`spelled-none`, `initial-inside`, `peak-inside`, `spelled-two`, `spelled-three`).
--- Not here: which letters join (crate joining_role, proofs/Pairs). Assumes nothing.
+-- Not here: which letters join (crate joining, proofs/Pairs). Assumes nothing.
 use mathlib.Core.Path.{_≡_, refl, sym, _∙_, ap}
 use mathlib.Core.Bool.{Bool, true, false, cond}
 use mathlib.Core.List.{List, [], _∷_, _++_}
@@ -20,9 +20,9 @@ use Rattle.laws.specs.Readings.{Reading, nothing, formed, broken}
 use Rattle.laws.proofs.Bools.{test}
 use Rattle.laws.proofs.Ranges.{within-yes, within-least, within-most}
 use Rattle.answers.proofs.Checks.{good-low}
-use Rattle.joining_role.specs.Roles.{pair}
-use Rattle.joining_role.proofs.Roles.{initial-range, final-range}
-use Rattle.joining_role.proofs.Pairs.{two-letters, three-letters, pair-other, no-fourth}
+use Rattle.joining.specs.Roles.{pair}
+use Rattle.joining.proofs.Roles.{initial-range, final-range}
+use Rattle.joining.proofs.Pairs.{two-letters, three-letters, pair-other, no-fourth}
 use Rattle.utf8.specs.Table37.{kindOf}
 use Rattle.utf8.specs.Utf8.{utf8, bytesOf, valueOf}
 use Rattle.utf8.specs.Reading.{goodOf, takenFrom}

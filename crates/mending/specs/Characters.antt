@@ -1,6 +1,6 @@
 -- The first character of a joined text, found among the pieces of a text of bytes: a piece takes in the next one as long as the two are neighbours that
 -- join. That this is what the joiner makes is shown (proofs/Characters, `character-next`).
--- Not here: which two join (crate joining_role, specs/Roles), the pieces (crate laws, specs/Pieces). Assumes nothing.
+-- Not here: which two join (crate joining, specs/Roles), the pieces (crate laws, specs/Pieces). Assumes nothing.
 use mathlib.Core.Bool.{Bool, true, false, cond}
 use mathlib.Core.List.{List, [], _∷_}
 use Prim.Native.Nat.{ℕ, _+_}
@@ -8,9 +8,9 @@ use lib.Dec.{eqb}
 use lib.ListN.{length}
 use Rattle.laws.specs.Pieces.{Piece, units}
 use Rattle.laws.specs.Damage.{codeOf}
-use Rattle.joining_role.specs.Roles.{pair}
-use Rattle.joining_role.specs.declared.Role.{Role}
-use Rattle.joining_role.specs.declared.Role.the-variants.{Initial, Peak, Final, Lv, None}
+use Rattle.joining.specs.Roles.{pair}
+use Rattle.joining.specs.declared.role.Role.{Role}
+use Rattle.joining.specs.declared.role.Role.the-variants.{Initial, Peak, Final, Lv, None}
 use Rattle.utf8.specs.Utf8.{utf8}
 use Rattle.utf8.specs.Reading.{takenFrom}
 use Rattle.utf8.specs.declared.read.Taken.{Taken}

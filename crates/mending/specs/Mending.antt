@@ -8,9 +8,9 @@ use mathlib.Core.List.{List}
 use Prim.Native.Nat.{ℕ}
 use lib.ListN.{take}
 use Rattle.laws.specs.Damage.{Transformation, StartsWith, EndsWith, beginning, ending}
-use Rattle.joining_role.specs.Roles.{roleOf}
-use Rattle.joining_role.specs.declared.Role.{Role}
-use Rattle.joining_role.specs.declared.Role.the-variants.{Initial, Peak, Final, Lv, None}
+use Rattle.joining.specs.Roles.{roleOf}
+use Rattle.joining.specs.declared.role.Role.{Role}
+use Rattle.joining.specs.declared.role.Role.the-variants.{Initial, Peak, Final, Lv, None}
 use Rattle.joining.specs.Joining.{join}
 use Rattle.utf8.specs.Utf8.{utf8, readText, writeText}
 use Rattle.utf8.specs.declared.read.Counted.{Counted}

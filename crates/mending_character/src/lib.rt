@@ -1,12 +1,12 @@
 // The character that begins at an index of a text of bytes: a code point, with those behind it that
 // join to it. Not here: the quick way for whole syllables of letters (crate mending_spelled).
-use joining_role::Role;
+use joining::role::Role;
 use utf8::read::Taken;
 ghost use mathlib.Core.Path.{_≡_};
 ghost use Prim.Native.Nat.{_+_, _≤_, _<_};
 ghost use lib.ListN.{length, drop};
 ghost use Rattle.laws.specs.Pieces.{pieces};
-ghost use Rattle.joining_role.specs.Roles.{roleOf};
+ghost use Rattle.joining.specs.Roles.{roleOf};
 ghost use Rattle.utf8.specs.Table37.{kindOf};
 ghost use Rattle.mending.specs.Characters.{grownOnce, characterFrom, goesOnAs};
 

@@ -16,7 +16,7 @@ use Rattle.letters.specs.Syllables.{oneStep, partsOf}
 use Rattle.letters.specs.Chapter3.{mapping}
 use Rattle.letters.proofs.Parts.{Closed, parts-closed, full-closed, full-of-step}
 use Rattle.letters.proofs.Chapter3.{step-mapping}
-use Rattle.joining_role.specs.Roles.{pair}
+use Rattle.joining.specs.Roles.{pair}
 use Rattle.normal.specs.Forms.{applied, composed, Decomposable, Equivalent, Sound, Exact}
 use Rattle.normal.specs.Jamo.{composite, jamo}
 use Rattle.normal.proofs.Steps.{one-same}

@@ -18,7 +18,7 @@ use Rattle.laws.proofs.Bools.{test, and-not-right}
 use Rattle.laws.proofs.Lists.{each-same}
 use Rattle.letters.specs.Syllables.{oneStep, partsTo, fullParts}
 use Rattle.letters.proofs.Chapter3.{step-mapping}
-use Rattle.joining_role.specs.Roles.{pair}
+use Rattle.joining.specs.Roles.{pair}
 use Rattle.joining.specs.Joining.{opens, held, meets, unless, joiner, join}
 use Rattle.joining.specs.declared.joiner.Open.{Open}
 use Rattle.joining.specs.declared.joiner.Open.the-variants.{Nothing}

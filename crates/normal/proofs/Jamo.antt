@@ -21,11 +21,11 @@ use Rattle.letters.specs.Syllables.{isSyllable, finalOf, oneStep}
 use Rattle.letters.specs.Chapter3.{SBase, LBase, VBase, LCount, VCount, TCount, SIndex, precomposed}
 use Rattle.letters.proofs.Steps.{syllable-yes, syllable-least}
 use Rattle.letters.proofs.Chapter3.{precomposed-is}
-use Rattle.joining_role.specs.Roles.{pair}
+use Rattle.joining.specs.Roles.{pair}
 use Rattle.normal.specs.Jamo.{toneClass, TIndex, isL, isV, isT, isLV, LVIndex, composite}
 use Rattle.normal.proofs.Steps.{by-two, two-syllable, Part, letter, whole, step-parts}
-use Rattle.joining_role.proofs.Roles.{role-initial, role-peak, role-final, role-lv}
-use Rattle.joining_role.proofs.Pairs.{pair-lv, pair-lvt, pair-step, step-pair}
+use Rattle.joining.proofs.Roles.{role-initial, role-peak, role-final, role-lv}
+use Rattle.joining.proofs.Pairs.{pair-lv, pair-lvt, pair-step, step-pair}
 
 -- ---- the combining class
 

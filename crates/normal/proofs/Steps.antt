@@ -1,5 +1,5 @@
 -- The one step (crate letters, specs/Syllables) read backwards: what is known of a code point and of its parts once it has two.
--- Not here: the one step in its three cases (letters, proofs/Steps), and what two neighbours join to (crate joining_role, proofs/Pairs).
+-- Not here: the one step in its three cases (letters, proofs/Steps), and what two neighbours join to (crate joining, proofs/Pairs).
 --
 -- In order: lists of one (`one-same`); by cases on a code point with two parts (`by-two`), which is a syllable
 -- (`two-syllable`); and where the parts of a syllable lie (`Part`, `step-parts`).

@@ -12,8 +12,8 @@ use mathlib.Core.List.{List, [], _∷_, append-nil}
 use Prim.Native.Nat.{ℕ}
 use native.Mathlib.Omega.{arith}
 use Rattle.laws.specs.Lists.{All, none, also}
-use Rattle.joining_role.proofs.Roles.{role-between}
-use Rattle.joining_role.proofs.Pairs.{pair-none}
+use Rattle.joining.proofs.Roles.{role-between}
+use Rattle.joining.proofs.Pairs.{pair-none}
 use Rattle.joining.specs.Joining.{join}
 use Rattle.joining.proofs.Joins.{join-closed, join-join}
 use Rattle.utf8.specs.Utf8.{readText}

@@ -19,9 +19,9 @@ use Rattle.laws.specs.Lists.{All, none, also}
 use Rattle.laws.specs.Pieces.{good, pieces}
 use Rattle.laws.proofs.Bools.{test, and-left, and-right}
 use Rattle.laws.proofs.Lists.{all-append}
-use Rattle.joining_role.specs.Roles.{pair}
-use Rattle.joining_role.proofs.Roles.{role-between}
-use Rattle.joining_role.proofs.Pairs.{pair-none, no-fourth}
+use Rattle.joining.specs.Roles.{pair}
+use Rattle.joining.proofs.Roles.{role-between}
+use Rattle.joining.proofs.Pairs.{pair-none, no-fourth}
 use Rattle.joining.specs.Joining.{join}
 use Rattle.joining.proofs.Joins.{join-one, join-apart, join-joined, join-closed}
 use Rattle.utf8.specs.Table37.{kindOf}

@@ -1,7 +1,7 @@
 -- `joining_role::before_final` meets its contract: an LV joins with the final, and nothing else does.
 -- Assumes nothing.
-use Rattle.joining_role.proofs.Pairs.{pair-as, pair-lvt}
-use Rattle.joining_role.proofs.Roles.{lv-syllable, final-range}
+use Rattle.joining.proofs.Pairs.{pair-as, pair-lvt}
+use Rattle.joining.proofs.Roles.{lv-syllable, final-range}
 use Rattle.letters.proofs.Steps.{syllable-most}
 use native.Mathlib.Omega.{arith}
 use mathlib.Core.Path.{sym, _∙_, ap}

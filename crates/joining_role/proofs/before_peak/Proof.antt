@@ -1,7 +1,7 @@
 -- `joining_role::before_peak` meets its contract: a modern initial joins with the peak, and nothing else does.
 -- Assumes nothing.
-use Rattle.joining_role.proofs.Pairs.{pair-as, pair-lv}
-use Rattle.joining_role.proofs.Roles.{initial-range, peak-range}
+use Rattle.joining.proofs.Pairs.{pair-as, pair-lv}
+use Rattle.joining.proofs.Roles.{initial-range, peak-range}
 use native.Mathlib.Omega.{arith}
 use mathlib.Core.Path.{sym, _∙_, ap}
 use borrow.Author.Needs.{needs}

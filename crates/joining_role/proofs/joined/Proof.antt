@@ -1,6 +1,6 @@
 -- `joining_role::joined` meets its contract: only a peak and a final join with what stands before them.
 -- Assumes nothing.
-use Rattle.joining_role.proofs.Pairs.{pair-firm}
+use Rattle.joining.proofs.Pairs.{pair-firm}
 use mathlib.Core.Path.{sym, _∙_, ap}
 use borrow.Author.Needs.{needs}
 use Rattle.joining_role.proofs.joined.Statement.{statement}

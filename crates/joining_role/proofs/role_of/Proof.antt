@@ -1,6 +1,6 @@
 -- `joining_role::role_of` meets its contract: each return knows which sort the code point has.
 -- Assumes nothing.
-use Rattle.joining_role.specs.Roles.{roleIn, roleOf}
+use Rattle.joining.specs.Roles.{roleIn, roleOf}
 use mathlib.Core.Path.{refl, sym, ap, _∙_}
 use borrow.Author.Needs.{needs}
 use Rattle.joining_role.proofs.role_of.Statement.{statement}

@@ -1,5 +1,5 @@
 -- Laws of two neighbours, whatever the two numbers are. THE PAIR LAW: a and b join to s exactly where the one step of s is a and b.
--- Not here: a whole text (crate joining, proofs/Joins), the roles from the ranges (proofs/Roles).
+-- Not here: a whole text (proofs/Joins), the roles from the ranges (proofs/Roles).
 --
 -- In order: by roles (`pair-as`, `pair-lv`, `pair-lvt`, `by-pair`, `pair-other`, `pair-before`, `pair-firm`, `pair-behind`, `pair-none`); by numbers (`two-letters`,
 -- `lv-letter`, `three-letters`); what two that join make (`lv-made`, `lvt-made`, `pair-syllable`, `pair-good`); the pair law (`pair-step`, `step-pair`, `pair-law`,
@@ -21,10 +21,10 @@ use Rattle.letters.specs.Sorts.{sortOf}
 use Rattle.letters.specs.Syllables.{isSyllable, indexOf, initialOf, peakOf, finalOf, oneStep, partsOf}
 use Rattle.letters.proofs.Steps.{syllable-yes, syllable-least, syllable-most, step-lv, step-lvt, step-other, by-step}
 use Rattle.letters.proofs.Parts.{full-of-step}
-use Rattle.joining_role.specs.declared.Role.{Role}
-use Rattle.joining_role.specs.declared.Role.the-variants.{Initial as RoleInitial, Peak, Final, Lv as RoleLv, None}
-use Rattle.joining_role.specs.Roles.{roleIn, roleOf, pairAs, pair}
-use Rattle.joining_role.proofs.Roles.{role-between, role-initial, role-peak, role-final, role-lv, role-lvt, initial-range, peak-range, final-range, lv-syllable, lv-final, firm, hard-as}
+use Rattle.joining.specs.declared.role.Role.{Role}
+use Rattle.joining.specs.declared.role.Role.the-variants.{Initial as RoleInitial, Peak, Final, Lv as RoleLv, None}
+use Rattle.joining.specs.Roles.{roleIn, roleOf, pairAs, pair}
+use Rattle.joining.proofs.Roles.{role-between, role-initial, role-peak, role-final, role-lv, role-lvt, initial-range, peak-range, final-range, lv-syllable, lv-final, firm, hard-as}
 
 -- ---- by roles
 

@@ -16,10 +16,10 @@ use Rattle.letters.specs.Sorts.{letterRanges, sortOf}
 use Rattle.letters.specs.Syllables.{isSyllable, finalOf}
 use Rattle.letters.proofs.Sorts.{sort-between, sort-lv, sort-lvt, modern-initial-range, modern-peak-range, modern-final-range, lv-range}
 use Rattle.letters.proofs.Steps.{syllable-yes, syllable-least, syllable-most}
-use Rattle.joining_role.specs.declared.Role.{Role}
-use Rattle.joining_role.specs.declared.Role.the-variants.{Initial as RoleInitial, Peak, Final, Lv as RoleLv, None}
-use Rattle.joining_role.specs.Roles.{roleIn, roleOf}
-use Rattle.joining_role.specs.Roles.{Hard}
+use Rattle.joining.specs.declared.role.Role.{Role}
+use Rattle.joining.specs.declared.role.Role.the-variants.{Initial as RoleInitial, Peak, Final, Lv as RoleLv, None}
+use Rattle.joining.specs.Roles.{roleIn, roleOf}
+use Rattle.joining.specs.Roles.{Hard}
 
 -- ---- forwards: from the range to the role
 

@@ -1,12 +1,12 @@
 -- Roles: document 01, 'Syllables'. What a code point is to the joiner; which two neighbours join, and to what; the code points that join with nothing
--- before them. Not here: the joiner, and a text (crate joining). Assumes nothing.
+-- before them. Not here: the joiner, and a text (specs/Joining). Assumes nothing.
 use mathlib.Core.Path.{_≡_}
 use Prim.Native.Nat.{ℕ, _+_, _-_, _*_}
 use Rattle.letters.specs.Sorts.{sortOf}
 use Rattle.letters.specs.declared.sort.Sort.{Sort}
 use Rattle.letters.specs.declared.sort.Sort.the-variants.{ModernInitial, OldInitial, InitialFiller, PeakFiller, ModernPeak, OldPeak, ModernFinal, OldFinal, Lv as SortLv, Lvt, Other}
-use Rattle.joining_role.specs.declared.Role.{Role}
-use Rattle.joining_role.specs.declared.Role.the-variants.{Initial as RoleInitial, Peak, Final, Lv as RoleLv, None}
+use Rattle.joining.specs.declared.role.Role.{Role}
+use Rattle.joining.specs.declared.role.Role.the-variants.{Initial as RoleInitial, Peak, Final, Lv as RoleLv, None}
 
 -- ---- what a code point is to the joiner: only modern letters join, and of the syllables only an LV goes on
 
