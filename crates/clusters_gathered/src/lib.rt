@@ -9,7 +9,7 @@ ghost use mathlib.Core.Path.{_≡_};
 ghost use Prim.Native.Nat.{_≤_};
 ghost use lib.ListN.{length};
 ghost use Rattle.laws.specs.Writing.{Fronts};
-ghost use Rattle.answers.specs.Checks.{lacking, passes, takesText};
+ghost use Rattle.answers.specs.Checks.{lacking};
 ghost use Rattle.answers.specs.Answers.{Makes};
 ghost use Rattle.clusters.specs.Rows.{Rows};
 ghost use Rattle.clusters.specs.Gathering.{gathered};
@@ -86,19 +86,6 @@ fn gathered_lacking(text: &[u32], table: &[u16], room: usize) -> usize
     0
 }
 
-// A text that has passed its checks: refusal 3 or done.
-fn gathered_checked(text: &[u32], out: &mut [u32]) -> Filled
-    requires { ⌜ takesText (now text) ≡ passes ⌝ }
-    ensures { λ r. ⌜ Makes gathered (now (text .entry)) (now (out .entry)) r (now (out .exit)) ⌝ }
-{
-    let table = clusters_table::table();
-    let needed = gathered_lacking(text, &table, out.len());
-    if needed != 0 {
-        return Filled::Refused(Refusal::NoRoom(needed));
-    }
-    Filled::Done(gathered_into(text, &table, out))
-}
-
 // Gathers the letters of a text into clusters and syllables, into a lent buffer: refusals 1, 2 and 3.
 pub fn gathered_form(text: &[u32], out: &mut [u32]) -> Filled
     ensures { λ r. ⌜ Makes gathered (now (text .entry)) (now (out .entry)) r (now (out .exit)) ⌝ }
@@ -106,6 +93,13 @@ pub fn gathered_form(text: &[u32], out: &mut [u32]) -> Filled
     let checked = answers_checks::check_text(text);
     match checked {
         Checked::Refused(refusal) => Filled::Refused(refusal),
-        Checked::Passed => gathered_checked(text, out),
+        Checked::Passed => {
+            let table = clusters_table::table();
+            let needed = gathered_lacking(text, &table, out.len());
+            if needed != 0 {
+                return Filled::Refused(Refusal::NoRoom(needed));
+            }
+            Filled::Done(gathered_into(text, &table, out))
+        }
     }
 }

@@ -9,7 +9,7 @@ ghost use mathlib.Core.Path.{_≡_};
 ghost use Prim.Native.Nat.{_≤_};
 ghost use lib.ListN.{length, replicate};
 ghost use Rattle.laws.specs.Writing.{Room, Wrote, Fronts};
-ghost use Rattle.answers.specs.Checks.{lacking, passes, takesText};
+ghost use Rattle.answers.specs.Checks.{lacking};
 ghost use Rattle.answers.specs.Answers.{Makes};
 ghost use Rattle.clusters.specs.Simple.{simple};
 ghost use Rattle.clusters.specs.Rows.{Rows, lettersBy, simpleBy};
@@ -117,19 +117,6 @@ fn simple_lacking(text: &[u32], table: &[u16], room: usize) -> usize
     0
 }
 
-// A text that has passed its checks: refusal 3 or done.
-fn simple_checked(text: &[u32], out: &mut [u32]) -> Filled
-    requires { ⌜ takesText (now text) ≡ passes ⌝ }
-    ensures { λ r. ⌜ Makes simple (now (text .entry)) (now (out .entry)) r (now (out .exit)) ⌝ }
-{
-    let table = clusters_table::table();
-    let needed = simple_lacking(text, &table, out.len());
-    if needed != 0 {
-        return Filled::Refused(Refusal::NoRoom(needed));
-    }
-    Filled::Done(simple_into(text, &table, out))
-}
-
 // Takes a text apart into simple letters, into a lent buffer: refusals 1, 2 and 3.
 pub fn simple_form(text: &[u32], out: &mut [u32]) -> Filled
     ensures { λ r. ⌜ Makes simple (now (text .entry)) (now (out .entry)) r (now (out .exit)) ⌝ }
@@ -137,6 +124,13 @@ pub fn simple_form(text: &[u32], out: &mut [u32]) -> Filled
     let checked = answers_checks::check_text(text);
     match checked {
         Checked::Refused(refusal) => Filled::Refused(refusal),
-        Checked::Passed => simple_checked(text, out),
+        Checked::Passed => {
+            let table = clusters_table::table();
+            let needed = simple_lacking(text, &table, out.len());
+            if needed != 0 {
+                return Filled::Refused(Refusal::NoRoom(needed));
+            }
+            Filled::Done(simple_into(text, &table, out))
+        }
     }
 }

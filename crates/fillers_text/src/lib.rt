@@ -7,7 +7,7 @@ ghost use mathlib.Core.Path.{_≡_};
 ghost use Prim.Native.Nat.{_≤_};
 ghost use lib.ListN.{length};
 ghost use Rattle.laws.specs.Writing.{Fronts};
-ghost use Rattle.answers.specs.Checks.{lacking, passes, takesText};
+ghost use Rattle.answers.specs.Checks.{lacking};
 ghost use Rattle.answers.specs.Answers.{Makes};
 ghost use Rattle.fillers.specs.Groups.{turned};
 ghost use Rattle.fillers.specs.Codes.{Pairs};
@@ -69,19 +69,6 @@ fn turn_lacking(text: &[u32], table: &[u8], room: usize) -> usize
     0
 }
 
-// A text that has passed its checks: refusal 3 or done.
-fn turn_checked(text: &[u32], out: &mut [u32]) -> Filled
-    requires { ⌜ takesText (now text) ≡ passes ⌝ }
-    ensures { λ r. ⌜ Makes turned (now (text .entry)) (now (out .entry)) r (now (out .exit)) ⌝ }
-{
-    let table = fillers_pairs::pairs();
-    let needed = turn_lacking(text, &table, out.len());
-    if needed != 0 {
-        return Filled::Refused(Refusal::NoRoom(needed));
-    }
-    Filled::Done(turn_into(text, &table, out))
-}
-
 // Turns the filler groups of a text into a lent buffer: refusals 1, 2 and 3.
 pub fn turn(text: &[u32], out: &mut [u32]) -> Filled
     ensures { λ r. ⌜ Makes turned (now (text .entry)) (now (out .entry)) r (now (out .exit)) ⌝ }
@@ -89,6 +76,13 @@ pub fn turn(text: &[u32], out: &mut [u32]) -> Filled
     let checked = answers_checks::check_text(text);
     match checked {
         Checked::Refused(refusal) => Filled::Refused(refusal),
-        Checked::Passed => turn_checked(text, out),
+        Checked::Passed => {
+            let table = fillers_pairs::pairs();
+            let needed = turn_lacking(text, &table, out.len());
+            if needed != 0 {
+                return Filled::Refused(Refusal::NoRoom(needed));
+            }
+            Filled::Done(turn_into(text, &table, out))
+        }
     }
 }

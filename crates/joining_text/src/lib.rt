@@ -8,7 +8,7 @@ ghost use mathlib.Core.Path.{_≡_};
 ghost use Prim.Native.Nat.{_≤_};
 ghost use lib.ListN.{length};
 ghost use Rattle.laws.specs.Writing.{Fronts};
-ghost use Rattle.answers.specs.Checks.{lacking, passes, takesText};
+ghost use Rattle.answers.specs.Checks.{lacking};
 ghost use Rattle.answers.specs.Answers.{Makes};
 ghost use Rattle.joining.specs.Joining.{join};
 ghost use Rattle.joining.specs.Steps.{emitted};
@@ -76,18 +76,6 @@ fn write_joined(text: &[u32], out: &mut [u32]) -> usize
     joining_put::put(joining_step::flush(joiner), out, at)
 }
 
-// A text that has passed its checks: refusal 3 or done.
-fn join_checked(text: &[u32], out: &mut [u32]) -> Filled
-    requires { ⌜ takesText (now text) ≡ passes ⌝ }
-    ensures { λ r. ⌜ Makes join (now (text .entry)) (now (out .entry)) r (now (out .exit)) ⌝ }
-{
-    let needed = join_lacking(text, out.len());
-    if needed != 0 {
-        return Filled::Refused(Refusal::NoRoom(needed));
-    }
-    Filled::Done(write_joined(text, out))
-}
-
 // Joins a text into a lent buffer: refusals 1, 2 and 3.
 pub fn join(text: &[u32], out: &mut [u32]) -> Filled
     ensures { λ r. ⌜ Makes join (now (text .entry)) (now (out .entry)) r (now (out .exit)) ⌝ }
@@ -95,6 +83,12 @@ pub fn join(text: &[u32], out: &mut [u32]) -> Filled
     let checked = answers_checks::check_text(text);
     match checked {
         Checked::Refused(refusal) => Filled::Refused(refusal),
-        Checked::Passed => join_checked(text, out),
+        Checked::Passed => {
+            let needed = join_lacking(text, out.len());
+            if needed != 0 {
+                return Filled::Refused(Refusal::NoRoom(needed));
+            }
+            Filled::Done(write_joined(text, out))
+        }
     }
 }

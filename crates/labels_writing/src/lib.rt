@@ -59,27 +59,6 @@ fn check_places(image: &[u8], number: usize, label: &[u8]) -> Checked
     }
 }
 
-// A record and a label that have passed these: refusal 7 or done.
-fn store(
-    image: &mut [u8],
-    number: usize,
-    object: u32,
-    berth: u16,
-    label: &[u8],
-    form: Form,
-) -> Checked
-    requires { ⌜ inOrder (overImage (now image) ∷ takesBytes (now label) ∷ noRecord (now image) number ∷ []) ≡ passes ⌝ }
-    ensures { λ r. ⌜ Writes (now (image .entry)) number object berth form (now (label .entry)) r (now (image .exit)) ⌝ }
-{
-    if labels_ill::first_ill(label) < label.len() {
-        return Checked::Refused(Refusal::BadLayout(8));
-    }
-    match form {
-        Form::AsGiven => store_given(image, number, object, berth, label),
-        Form::Joined => store_joined(image, number, object, berth, label),
-    }
-}
-
 // Writes a record: refusals 1, 6 and 7.
 pub fn write_record(
     image: &mut [u8],
@@ -94,6 +73,14 @@ pub fn write_record(
     let checked = check_places(image, number, label);
     match checked {
         Checked::Refused(refusal) => Checked::Refused(refusal),
-        Checked::Passed => store(image, number, object, berth, label, form),
+        Checked::Passed => {
+            if labels_ill::first_ill(label) < label.len() {
+                return Checked::Refused(Refusal::BadLayout(8));
+            }
+            match form {
+                Form::AsGiven => store_given(image, number, object, berth, label),
+                Form::Joined => store_joined(image, number, object, berth, label),
+            }
+        }
     }
 }

@@ -8,7 +8,7 @@ ghost use mathlib.Core.Path.{_≡_};
 ghost use Prim.Native.Nat.{_≤_};
 ghost use lib.ListN.{length};
 ghost use Rattle.laws.specs.Writing.{Room, Wrote, Fronts};
-ghost use Rattle.answers.specs.Checks.{lacking, passes, takesText};
+ghost use Rattle.answers.specs.Checks.{lacking};
 ghost use Rattle.answers.specs.Answers.{Makes};
 ghost use Rattle.letters.specs.Syllables.{partsTo, partsOf, fullParts};
 
@@ -89,18 +89,6 @@ fn write_parts(text: &[u32], out: &mut [u32]) -> usize
     at
 }
 
-// A text that has passed its checks: refusal 3 or done.
-fn full_parts_checked(text: &[u32], out: &mut [u32]) -> Filled
-    requires { ⌜ takesText (now text) ≡ passes ⌝ }
-    ensures { λ r. ⌜ Makes fullParts (now (text .entry)) (now (out .entry)) r (now (out .exit)) ⌝ }
-{
-    let needed = parts_lacking(text, out.len());
-    if needed != 0 {
-        return Filled::Refused(Refusal::NoRoom(needed));
-    }
-    Filled::Done(write_parts(text, out))
-}
-
 // Takes a text apart into a lent buffer: refusals 1, 2 and 3.
 pub fn full_parts(text: &[u32], out: &mut [u32]) -> Filled
     ensures { λ r. ⌜ Makes fullParts (now (text .entry)) (now (out .entry)) r (now (out .exit)) ⌝ }
@@ -108,6 +96,12 @@ pub fn full_parts(text: &[u32], out: &mut [u32]) -> Filled
     let checked = answers_checks::check_text(text);
     match checked {
         Checked::Refused(refusal) => Filled::Refused(refusal),
-        Checked::Passed => full_parts_checked(text, out),
+        Checked::Passed => {
+            let needed = parts_lacking(text, out.len());
+            if needed != 0 {
+                return Filled::Refused(Refusal::NoRoom(needed));
+            }
+            Filled::Done(write_parts(text, out))
+        }
     }
 }

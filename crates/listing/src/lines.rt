@@ -7,7 +7,7 @@ ghost use mathlib.Core.Path.{_≡_};
 ghost use Prim.Native.Nat.{_≤_};
 ghost use lib.ListN.{length};
 ghost use Rattle.laws.specs.Writing.{Fronts};
-ghost use Rattle.answers.specs.Checks.{lacking, passes, takesBytes};
+ghost use Rattle.answers.specs.Checks.{lacking};
 ghost use Rattle.listing.specs.Listing.{listed, Lists};
 
 // Writes the list to the front of `out`, which has room for it.
@@ -58,18 +58,6 @@ fn list_lacking(text: &[u8], room: usize) -> usize
     0
 }
 
-// A text that has passed its check: refusal 3 or done.
-fn list_checked(text: &[u8], out: &mut [u8]) -> Filled
-    requires { ⌜ takesBytes (now text) ≡ passes ⌝ }
-    ensures { λ r. ⌜ Lists (now (text .entry)) (now (out .entry)) r (now (out .exit)) ⌝ }
-{
-    let needed = list_lacking(text, out.len());
-    if needed != 0 {
-        return Filled::Refused(Refusal::NoRoom(needed));
-    }
-    Filled::Done(list_into(text, out))
-}
-
 // Lists the characters of a text of bytes into a lent buffer: refusals 1 and 3.
 pub fn list(text: &[u8], out: &mut [u8]) -> Filled
     ensures { λ r. ⌜ Lists (now (text .entry)) (now (out .entry)) r (now (out .exit)) ⌝ }
@@ -77,6 +65,12 @@ pub fn list(text: &[u8], out: &mut [u8]) -> Filled
     let checked = answers_checks::check_bytes(text);
     match checked {
         Checked::Refused(refusal) => Filled::Refused(refusal),
-        Checked::Passed => list_checked(text, out),
+        Checked::Passed => {
+            let needed = list_lacking(text, out.len());
+            if needed != 0 {
+                return Filled::Refused(Refusal::NoRoom(needed));
+            }
+            Filled::Done(list_into(text, out))
+        }
     }
 }

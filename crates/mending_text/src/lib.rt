@@ -9,7 +9,7 @@ use utf8::read::Taken;
 ghost use mathlib.Core.Path.{_≡_};
 ghost use Prim.Native.Nat.{_+_, _-_, _≤_, _<_};
 ghost use lib.ListN.{length};
-ghost use Rattle.answers.specs.Checks.{lacking, passes, takesBytes};
+ghost use Rattle.answers.specs.Checks.{lacking};
 ghost use Rattle.utf8.specs.Reading.{ReadFronts, Reads};
 ghost use Rattle.mending.specs.Mending.{mended};
 ghost use Rattle.mending.specs.Steps.{Copies, Triple, Ready, Moved, Fits, Placed};
@@ -145,18 +145,6 @@ fn mend_lacking(text: &[u8], room: usize) -> usize
     0
 }
 
-// A text that has passed its check: refusal 3 or done.
-fn mend_checked(text: &[u8], out: &mut [u8]) -> Read
-    requires { ⌜ takesBytes (now text) ≡ passes ⌝ }
-    ensures { λ r. ⌜ Reads mended (now (text .entry)) (now (out .entry)) r (now (out .exit)) ⌝ }
-{
-    let needed = mend_lacking(text, out.len());
-    if needed != 0 {
-        return Read::Refused(Refusal::NoRoom(needed));
-    }
-    Read::Done(mend_into(text, out))
-}
-
 // Mends a text of bytes into a lent buffer: refusals 1 and 3.
 pub fn mend(text: &[u8], out: &mut [u8]) -> Read
     ensures { λ r. ⌜ Reads mended (now (text .entry)) (now (out .entry)) r (now (out .exit)) ⌝ }
@@ -164,6 +152,12 @@ pub fn mend(text: &[u8], out: &mut [u8]) -> Read
     let checked = answers_checks::check_bytes(text);
     match checked {
         Checked::Refused(refusal) => Read::Refused(refusal),
-        Checked::Passed => mend_checked(text, out),
+        Checked::Passed => {
+            let needed = mend_lacking(text, out.len());
+            if needed != 0 {
+                return Read::Refused(Refusal::NoRoom(needed));
+            }
+            Read::Done(mend_into(text, out))
+        }
     }
 }

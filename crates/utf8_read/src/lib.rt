@@ -7,7 +7,7 @@ use utf8::read::Read;
 ghost use mathlib.Core.Path.{_≡_};
 ghost use Prim.Native.Nat.{_≤_};
 ghost use lib.ListN.{length};
-ghost use Rattle.answers.specs.Checks.{lacking, passes, takesBytes};
+ghost use Rattle.answers.specs.Checks.{lacking};
 ghost use Rattle.utf8.specs.Utf8.{readText};
 ghost use Rattle.utf8.specs.Reading.{ReadFronts, Reads};
 
@@ -61,18 +61,6 @@ fn read_into(text: &[u8], out: &mut [u32]) -> Counted
     Counted { length, ills }
 }
 
-// A text that has passed its check: refusal 3 or done.
-fn read_checked(text: &[u8], out: &mut [u32]) -> Read
-    requires { ⌜ takesBytes (now text) ≡ passes ⌝ }
-    ensures { λ r. ⌜ Reads readText (now (text .entry)) (now (out .entry)) r (now (out .exit)) ⌝ }
-{
-    let needed = read_lacking(text, out.len());
-    if needed != 0 {
-        return Read::Refused(Refusal::NoRoom(needed));
-    }
-    Read::Done(read_into(text, out))
-}
-
 // Reads a text of bytes into a lent buffer: refusals 1 and 3.
 pub fn read_text(text: &[u8], out: &mut [u32]) -> Read
     ensures { λ r. ⌜ Reads readText (now (text .entry)) (now (out .entry)) r (now (out .exit)) ⌝ }
@@ -80,6 +68,12 @@ pub fn read_text(text: &[u8], out: &mut [u32]) -> Read
     let checked = answers_checks::check_bytes(text);
     match checked {
         Checked::Refused(refusal) => Read::Refused(refusal),
-        Checked::Passed => read_checked(text, out),
+        Checked::Passed => {
+            let needed = read_lacking(text, out.len());
+            if needed != 0 {
+                return Read::Refused(Refusal::NoRoom(needed));
+            }
+            Read::Done(read_into(text, out))
+        }
     }
 }

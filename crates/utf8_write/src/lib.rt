@@ -56,18 +56,6 @@ fn write_into(text: &[u32], out: &mut [u8]) -> usize
     at
 }
 
-// A text that has passed its checks: refusal 3 or done.
-fn write_checked(text: &[u32], out: &mut [u8]) -> Filled
-    requires { ⌜ takesText (now text) ≡ passes ⌝ }
-    ensures { λ r. ⌜ Makes writeText (now (text .entry)) (now (out .entry)) r (now (out .exit)) ⌝ }
-{
-    let needed = write_lacking(text, out.len());
-    if needed != 0 {
-        return Filled::Refused(Refusal::NoRoom(needed));
-    }
-    Filled::Done(write_into(text, out))
-}
-
 // Writes a text as UTF-8 into a lent buffer: refusals 1, 2 and 3.
 pub fn write_text(text: &[u32], out: &mut [u8]) -> Filled
     ensures { λ r. ⌜ Makes writeText (now (text .entry)) (now (out .entry)) r (now (out .exit)) ⌝ }
@@ -75,6 +63,12 @@ pub fn write_text(text: &[u32], out: &mut [u8]) -> Filled
     let checked = answers_checks::check_text(text);
     match checked {
         Checked::Refused(refusal) => Filled::Refused(refusal),
-        Checked::Passed => write_checked(text, out),
+        Checked::Passed => {
+            let needed = write_lacking(text, out.len());
+            if needed != 0 {
+                return Filled::Refused(Refusal::NoRoom(needed));
+            }
+            Filled::Done(write_into(text, out))
+        }
     }
 }

@@ -1,7 +1,8 @@
--- `letters_apart::full_parts` meets its contract: the checks refuse, or the text has passed them.
+-- `letters_apart::full_parts` meets its contract: the checks refuse, or it finds what is lacking, and refuses 3 or writes.
 -- Assumes nothing.
 use Rattle.letters.specs.Syllables.{fullParts}
-use Rattle.answers.proofs.Verdicts.{checks-passed, makes-refused}
+use Rattle.answers.proofs.Verdicts.{checks-passed, makes-refused, makes-lacking, makes-done}
+use Rattle.answers.proofs.Checks.{text-short, lacking-room}
 use borrow.Author.Needs.{needs}
 use Rattle.letters_apart.proofs.full_parts.Statement.{statement}
 use Rattle.letters_apart.proofs.full_parts.Tie as tie
@@ -15,17 +16,31 @@ enum-known-checked c = search needs
 enum-told : tie.Need-enum-told
 enum-told c = search needs
 
-full-parts-checked-requires : tie.Need-full-parts-checked-requires
-full-parts-checked-requires c κs = checks-passed (c .before .before .before .check-text .ensures) (c .before .enum-told .given .1)
+parts-lacking-requires : tie.Need-parts-lacking-requires
+parts-lacking-requires c κs = text-short _ (checks-passed (c .before .before .check-text .ensures) (c .enum-told .given .1))
 
 returns : tie.Need-returns
-returns c = makes-refused fullParts (c .before .before .before .check-text .ensures) (c .before .checked .given .1)
+returns c =
+    let passed = c .before .before in
+    makes-lacking fullParts (checks-passed (passed .before .before .check-text .ensures) (passed .enum-told .given .1))
+    (c .before .parts-lacking .ensures) (c .if1 .taken)
+
+write-parts-requires : tie.Need-write-parts-requires
+write-parts-requires c κs = lacking-room _ _ (c .before .before .parts-lacking .ensures) (c .before .if1 .left)
+
+returns-2 : tie.Need-returns-2
+returns-2 c = makes-refused fullParts (c .before .before .before .check-text .ensures) (c .before .checked .given .1)
 
 same-length : tie.Need-same-length
 same-length c = search needs
 
-returns-2 : tie.Need-returns-2
-returns-2 c = search needs
+returns-3 : tie.Need-returns-3
+returns-3 c =
+    let tested = c .before .before .before .before in
+    let passed = tested .before .before in
+    makes-done fullParts (checks-passed (passed .before .before .check-text .ensures) (passed .enum-told .given .1))
+    (tested .before .parts-lacking .ensures) (tested .if1 .left)
+    (c .before .before .write-parts .ensures)
 
 pub full-parts-spec : {M : Type 1} → statement M
 full-parts-spec =
@@ -34,7 +49,9 @@ full-parts-spec =
     check-text-requires
     enum-known-checked
     enum-told
-    full-parts-checked-requires
+    parts-lacking-requires
     returns
+    write-parts-requires
+    returns-2
     same-length
-    returns-2)
+    returns-3)

@@ -1,7 +1,8 @@
--- `listing::lines::list` meets its contract: the check refuses, or the rest is done.
+-- `listing::lines::list` meets its contract: the check refuses, or it finds what is lacking, and refuses 3 or writes.
 -- Assumes nothing.
 use Rattle.answers.proofs.Verdicts.{checks-passed}
-use Rattle.listing.proofs.Calls.{lists-refused}
+use Rattle.listing.proofs.Calls.{lists-refused, lists-lacking, lists-done}
+use Rattle.answers.proofs.Checks.{bytes-short, lacking-room}
 use borrow.Author.Needs.{needs}
 use Rattle.listing.proofs.lines.list.Statement.{statement}
 use Rattle.listing.proofs.lines.list.Tie as tie
@@ -15,17 +16,35 @@ enum-known-checked c = search needs
 enum-told : tie.Need-enum-told
 enum-told c = search needs
 
-list-checked-requires : tie.Need-list-checked-requires
-list-checked-requires c κs = checks-passed (c .before .before .before .check-bytes .ensures) (c .before .enum-told .given .1)
+list-lacking-requires : tie.Need-list-lacking-requires
+list-lacking-requires c κs = bytes-short _ (checks-passed (c .before .before .check-bytes .ensures) (c .enum-told .given .1))
 
 returns : tie.Need-returns
-returns c = lists-refused (c .before .before .before .check-bytes .ensures) (c .before .checked .given .1)
+returns c =
+    let passed = c .before .before in
+    lists-lacking (checks-passed (passed .before .before .check-bytes .ensures) (passed .enum-told .given .1))
+    (c .before .list-lacking .ensures) (c .if1 .taken)
+
+list-into-requires : tie.Need-list-into-requires
+list-into-requires c κs =
+    let passed = c .before .before .before in (
+      bytes-short _ (checks-passed (passed .before .before .check-bytes .ensures) (passed .enum-told .given .1)),
+      lacking-room _ _ (c .before .before .list-lacking .ensures) (c .before .if1 .left),
+    )
+
+returns-2 : tie.Need-returns-2
+returns-2 c = lists-refused (c .before .before .before .check-bytes .ensures) (c .before .checked .given .1)
 
 same-length : tie.Need-same-length
 same-length c = search needs
 
-returns-2 : tie.Need-returns-2
-returns-2 c = search needs
+returns-3 : tie.Need-returns-3
+returns-3 c =
+    let tested = c .before .before .before .before in
+    let passed = tested .before .before in
+    lists-done (checks-passed (passed .before .before .check-bytes .ensures) (passed .enum-told .given .1))
+    (tested .before .list-lacking .ensures) (tested .if1 .left)
+    (c .before .before .list-into .ensures)
 
 pub list-spec : {M : Type 1} → statement M
 list-spec =
@@ -34,7 +53,9 @@ list-spec =
     check-bytes-requires
     enum-known-checked
     enum-told
-    list-checked-requires
+    list-lacking-requires
     returns
+    list-into-requires
+    returns-2
     same-length
-    returns-2)
+    returns-3)
