@@ -3,7 +3,6 @@
 use answers::Filled;
 use answers::Refusal;
 use names::named::Indices;
-use names::strings;
 use names::strings::Part;
 ghost use mathlib.Core.Path.{_≡_};
 ghost use Prim.Native.Nat.{_≤_};
@@ -64,9 +63,9 @@ fn name_lacking(
     if 23 <= room {
         return 0;
     }
-    let initial = strings::string_at(initials, indices.initial);
-    let peak = strings::string_at(peaks, indices.peak);
-    let last = strings::string_at(finals, indices.last);
+    let initial = names_strings::string_at(initials, indices.initial);
+    let peak = names_strings::string_at(peaks, indices.peak);
+    let last = names_strings::string_at(finals, indices.last);
     let needed = 16 + initial.length + peak.length + last.length;
     if room < needed {
         return needed;
@@ -84,11 +83,11 @@ fn put_name(indices: Indices, initials: &[u8], peaks: &[u8], finals: &[u8], out:
     ensures { λ r. ⌜ Wrote (now (out .entry)) 0 (nameBy (indices .initial) (indices .peak) (indices .last)) r (now (out .exit)) ⌝ }
 {
     let behind_prefix = put_prefix(out);
-    let initial = strings::string_at(initials, indices.initial);
+    let initial = names_strings::string_at(initials, indices.initial);
     let behind_initial = put_part(initial, out, behind_prefix);
-    let peak = strings::string_at(peaks, indices.peak);
+    let peak = names_strings::string_at(peaks, indices.peak);
     let behind_peak = put_part(peak, out, behind_initial);
-    let last = strings::string_at(finals, indices.last);
+    let last = names_strings::string_at(finals, indices.last);
     put_part(last, out, behind_peak)
 }
 
@@ -96,9 +95,9 @@ fn put_name(indices: Indices, initials: &[u8], peaks: &[u8], finals: &[u8], out:
 pub fn name_by(indices: Indices, out: &mut [u8]) -> Filled
     ensures { λ r. ⌜ NamesBy (indices .initial) (indices .peak) (indices .last) (now (out .entry)) r (now (out .exit)) ⌝ }
 {
-    let initials = strings::initial_rows();
-    let peaks = strings::peak_rows();
-    let finals = strings::final_rows();
+    let initials = names_strings::initial_rows();
+    let peaks = names_strings::peak_rows();
+    let finals = names_strings::final_rows();
     let needed = name_lacking(indices, &initials, &peaks, &finals, out.len());
     if needed != 0 {
         return Filled::Refused(Refusal::NoRoom(needed));

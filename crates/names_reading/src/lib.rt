@@ -4,7 +4,6 @@ use answers::Checked;
 use answers::Refusal;
 use names::named::Found;
 use names::named::Named;
-use names::strings;
 ghost use mathlib.Core.Path.{_≡_};
 ghost use mathlib.Core.Bool.{cond};
 ghost use Prim.Native.Nat.{_+_, _*_, _<_};
@@ -35,10 +34,10 @@ fn search(name: &[u8], initials: &[u8], peaks: &[u8], finals: &[u8]) -> Found
         if 19 <= i {
             break 'search Found::Nothing;
         }
-        let initial = strings::string_at(initials, i);
+        let initial = names_strings::string_at(initials, i);
         let mut p = start(names_fitting::fits(&name[16..], initial, true), 21);
         while p < 21 {
-            let peak = strings::string_at(peaks, p);
+            let peak = names_strings::string_at(peaks, p);
             let behind_initial = 16 + initial.length;
             let mut f = start(
                 names_fitting::fits(&name[behind_initial..], peak, false),
@@ -46,7 +45,7 @@ fn search(name: &[u8], initials: &[u8], peaks: &[u8], finals: &[u8]) -> Found
             );
             while f < 28 {
                 let behind_peak = behind_initial + peak.length;
-                if names_fitting::ends(&name[behind_peak..], strings::string_at(finals, f)) {
+                if names_fitting::ends(&name[behind_peak..], names_strings::string_at(finals, f)) {
                     break 'search Found::At(i, p, f);
                 }
                 f += 1;
@@ -71,9 +70,9 @@ fn read_checked(name: &[u8]) -> Named
     requires { ⌜ takesBytes (now name) ≡ passes ⌝ }
     ensures { λ r. ⌜ ReadsName (now (name .entry)) r ⌝ }
 {
-    let initials = strings::initial_rows();
-    let peaks = strings::peak_rows();
-    let finals = strings::final_rows();
+    let initials = names_strings::initial_rows();
+    let peaks = names_strings::peak_rows();
+    let finals = names_strings::final_rows();
     let found = search(name, &initials, &peaks, &finals);
     match found {
         Found::At(i, p, f) => Named::Syllable(syllable_by(i, p, f)),

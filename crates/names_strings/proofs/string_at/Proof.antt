@@ -1,10 +1,10 @@
--- `names::strings::string_at` meets its contract: a row inside the table, or behind its last.
+-- `names_strings::string_at` meets its contract: a row inside the table, or behind its last.
 -- Assumes nothing.
 use mathlib.Core.Path.{sym}
 use Rattle.names.proofs.Rows.{part-read, part-behind}
 use borrow.Author.Needs.{needs}
-use Rattle.names.proofs.strings.string_at.Statement.{statement}
-use Rattle.names.proofs.strings.string_at.Tie as tie
+use Rattle.names_strings.proofs.string_at.Statement.{statement}
+use Rattle.names_strings.proofs.string_at.Tie as tie
 
 returns : tie.Need-returns
 returns c = sym (part-behind _ _ (c .if1 .taken))
