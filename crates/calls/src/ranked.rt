@@ -2,13 +2,12 @@
 // behind those of a. Not here: how a call comes in and an answer goes out.
 use crate::reply;
 use crate::reply::Reply;
-use ranking::order;
 use ranking::order::Ranked;
 ghost use Prim.Native.Nat.{_≤_};
 
 fn replied(answer: Ranked) -> Reply {
     match answer {
-        Ranked::Stands(order) => reply::done(order::number_of(order), 0, 0),
+        Ranked::Stands(order) => reply::done(ranking_order::number_of(order), 0, 0),
         Ranked::Refused(refusal) => reply::refused(refusal),
     }
 }

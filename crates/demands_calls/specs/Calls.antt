@@ -251,15 +251,15 @@ ListLines =
 
 -- ---- ranking
 
--- `ranking::order::compared`
+-- `ranking_order::compared`
 abbrev pub Compared : Type 0
 Compared = (first second : ℕ) (r : Order) → r ≡ byValue first second → Answers (byValue first second) r
 
--- `ranking::order::followed`
+-- `ranking_order::followed`
 abbrev pub Followed : Type 0
 Followed = (order next : Order) (r : Order) → r ≡ thenBy order next → Answers (thenBy order next) r
 
--- `ranking::order::number_of`
+-- `ranking_order::number_of`
 abbrev pub NumberOf : Type 0
 NumberOf = (order : Order) (r : ℕ) → r ≡ orderNumber order → Answers (orderNumber order) r
 

@@ -3,7 +3,6 @@
 use answers::Filled;
 use names::named::Named;
 use pulphopper_answer::Answer;
-use ranking::order;
 use ranking::order::Ranked;
 use utf8::read::Read;
 ghost use mathlib.Core.Path.{_≡_};
@@ -68,7 +67,7 @@ pub extern "C" fn pulphopper_rank(first: &[u8], second: &[u8]) -> Answer
         Ranked::Stands(order) => Answer {
             refusal: 0,
             count: 0,
-            value: order::number_of(order) as u64,
+            value: ranking_order::number_of(order) as u64,
         },
         Ranked::Refused(refusal) => pulphopper_answer::refused(refusal),
     }

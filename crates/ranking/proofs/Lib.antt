@@ -1,5 +1,5 @@
 -- Crate ranking, proofs/: the laws of orders, of items, of the rank, of the steps, of what an arm for several fronts tells, of texts, and of the calls.
--- Not here: the definitions (specs/), and the proofs of the functions, which stand in folders of their own.
+-- Not here: the definitions (specs/), and any function.
 pub mod Orders
 pub mod Items
 pub mod Ranks

@@ -1,8 +1,6 @@
-// Where one label stands to another, and how two comparisons are one.
-// Not here: the labels (crates ranking_text, ranking_bytes), what is compared (crates ranking_apart, ranking_step).
+// Where one label stands to another, and the answer of a call that ranks: the definitions speak of them. Types alone.
+// Not here: what is done with an order (crate ranking_order).
 use answers::Refusal;
-ghost use mathlib.Core.Path.{_≡_};
-ghost use Rattle.ranking.specs.Ranking.{byValue, thenBy, orderNumber};
 
 // Where the first of two labels stands.
 pub enum Order {
@@ -15,39 +13,4 @@ pub enum Order {
 pub enum Ranked {
     Stands(Order),
     Refused(Refusal),
-}
-
-// Two numbers, by value.
-pub fn compared(first: u32, second: u32) -> Order
-    ensures { λ r. ⌜ r ≡ byValue first second ⌝ }
-{
-    if first < second {
-        return Order::Before;
-    }
-    if second < first {
-        return Order::After;
-    }
-    Order::Equal
-}
-
-// What the first comparison says, and where that is equal, what the next one says.
-pub fn followed(order: Order, next: Order) -> Order
-    ensures { λ r. ⌜ r ≡ thenBy order next ⌝ }
-{
-    match order {
-        Order::Before => Order::Before,
-        Order::Equal => next,
-        Order::After => Order::After,
-    }
-}
-
-// The number that stands for it where it is told as a number.
-pub fn number_of(order: Order) -> u32
-    ensures { λ r. ⌜ r ≡ orderNumber order ⌝ }
-{
-    match order {
-        Order::Before => 0,
-        Order::Equal => 1,
-        Order::After => 2,
-    }
 }

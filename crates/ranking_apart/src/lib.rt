@@ -1,6 +1,5 @@
 // Crate ranking_apart: two items begin: the step from two fronts where nothing is open, and the answer found.
 // Not here: numbers that go on (crate ranking_step), along two texts (crate ranking_walk).
-use ranking::order;
 use ranking::order::Order;
 use ranking::step::Front;
 use ranking::step::Move;
@@ -58,7 +57,7 @@ fn second_zero() -> Move
 fn others(first: u32, second: u32) -> Move
     ensures { λ r. ⌜ Steps Apart (Other first) (Other second) r ⌝ }
 {
-    let order = order::compared(first, second);
+    let order = ranking_order::compared(first, second);
     match order {
         Order::Before => done(Order::Before),
         Order::Equal => both(State::Apart),
@@ -76,7 +75,7 @@ fn digits(first: u32, second: u32) -> Move
     if second == 0 {
         return second_zero();
     }
-    both(State::Number(order::compared(first, second)))
+    both(State::Number(ranking_order::compared(first, second)))
 }
 
 // Two items begin: the end before all, numbers before code points.

@@ -2,7 +2,6 @@
 // value and comes back. A number has any length: of two, the longer one is the greater once the zeros
 // in front have passed. Every function takes every state and every front.
 // Not here: two items that begin (crate ranking_apart), where the characters come from (crates ranking_walk, ranking_text, ranking_bytes).
-use ranking::order;
 use ranking::order::Order;
 use ranking::step::Front;
 use ranking::step::Move;
@@ -32,7 +31,7 @@ fn number(order: Order, first: Front, second: Front) -> Move
     match first {
         Front::Digit(digit) => match second {
             Front::Digit(other) => Move {
-                state: State::Number(order::followed(order, order::compared(digit, other))),
+                state: State::Number(ranking_order::followed(order, ranking_order::compared(digit, other))),
                 first: true,
                 second: true,
             },

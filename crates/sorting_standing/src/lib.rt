@@ -1,6 +1,5 @@
 // Crate sorting_standing: where two records of an image stand to each other: by label, then by berth, then by number.
 // Not here: the order of all of them (crate sorting_order).
-use ranking::order;
 use ranking::order::Order;
 use ranking::order::Ranked;
 ghost use mathlib.Core.Path.{_≡_};
@@ -28,12 +27,12 @@ fn compared(image: &[u8], first: u32, second: u32) -> Order
     ensures { λ r. ⌜ r ≡ standing (now (image .entry)) first second ⌝ }
 {
     let label = by_label(image, first as usize, second as usize);
-    let berth = order::compared(
+    let berth = ranking_order::compared(
         labels_record::berth_at(image, first as usize) as u32,
         labels_record::berth_at(image, second as usize) as u32,
     );
-    let number = order::compared(first, second);
-    order::followed(label, order::followed(berth, number))
+    let number = ranking_order::compared(first, second);
+    ranking_order::followed(label, ranking_order::followed(berth, number))
 }
 
 // Whether one record comes before another.

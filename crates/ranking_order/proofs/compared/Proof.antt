@@ -1,10 +1,10 @@
--- `ranking::order::compared` meets its contract: the two tests of the code are the three orders of two numbers.
+-- `ranking_order::compared` meets its contract: the two tests of the code are the three orders of two numbers.
 -- Assumes nothing.
 use mathlib.Core.Path.{sym}
 use native.Mathlib.Omega.{arith}
 use Rattle.ranking.proofs.Orders.{value-before, value-equal, value-after}
-use Rattle.ranking.proofs.order.compared.Statement.{statement}
-use Rattle.ranking.proofs.order.compared.Tie as tie
+use Rattle.ranking_order.proofs.compared.Statement.{statement}
+use Rattle.ranking_order.proofs.compared.Tie as tie
 
 returns : tie.Need-returns
 returns c = sym (value-before _ _ (c .if1 .taken))
