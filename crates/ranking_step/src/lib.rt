@@ -31,7 +31,10 @@ fn number(order: Order, first: Front, second: Front) -> Move
     match first {
         Front::Digit(digit) => match second {
             Front::Digit(other) => Move {
-                state: State::Number(ranking_order::followed(order, ranking_order::compared(digit, other))),
+                state: State::Number(ranking_order::followed(
+                    order,
+                    ranking_order::compared(digit, other),
+                )),
                 first: true,
                 second: true,
             },
