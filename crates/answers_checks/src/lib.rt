@@ -1,38 +1,13 @@
-// Crate answers_checks: the limit, the first bad code point of a text, and the checks that come before all work (document 01, 'Refusal numbers').
-// Not here: refusals and answers (crate answers), the checks of one call alone (the crates above).
+// Crate answers_checks: the limit, and the checks of a text that come before all work (document 01, 'Refusal numbers').
+// Not here: refusals and answers (crate answers), bad code points (crate answers_bad), the checks of one call alone (the crates above).
 use answers::Checked;
 use answers::Refusal;
 ghost use mathlib.Core.Path.{_≡_};
-ghost use Rattle.answers.specs.Checks.{bad, firstBad, takesBytes, takesText};
+ghost use Rattle.answers.specs.Checks.{takesBytes, takesText};
 ghost use Rattle.answers.specs.Answers.{checked};
 
 // The most code points or bytes that a call takes.
 pub const LIMIT: usize = 16384;
-
-// Over 10FFFF, or a surrogate.
-pub fn is_bad(code: u32) -> bool
-    ensures { λ r. ⌜ r ≡ bad code ⌝ }
-{
-    match code {
-        0..=0xD7FF => false,
-        0xE000..=0x10FFFF => false,
-        _ => true,
-    }
-}
-
-// The index of the first bad code point, or the text's length where there is none.
-pub fn first_bad(text: &[u32]) -> usize
-    ensures { λ r. ⌜ r ≡ firstBad (now (text .entry)) ⌝ }
-{
-    let mut i = 0;
-    while i < text.len() {
-        if is_bad(text[i]) {
-            return i;
-        }
-        i += 1;
-    }
-    i
-}
 
 // The checks that a text of code points has to pass before anything is made of it: 1, then 2.
 pub fn check_text(text: &[u32]) -> Checked
@@ -41,7 +16,7 @@ pub fn check_text(text: &[u32]) -> Checked
     if LIMIT < text.len() {
         return Checked::Refused(Refusal::OverLimit(LIMIT));
     }
-    let bad = first_bad(text);
+    let bad = answers_bad::first_bad(text);
     if bad < text.len() {
         return Checked::Refused(Refusal::BadCodePoint(bad));
     }

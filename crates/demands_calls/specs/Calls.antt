@@ -86,11 +86,11 @@ Tell = (refusal : Refusal) (r : Told) → r ≡ told refusal → Answers (told r
 abbrev pub RefusalLine : Type 0
 RefusalLine = (refusal : Refusal) (r : List ℕ) → 10 ≡ length r → r ≡ refusedLine refusal → Answers (refusedLine refusal) r
 
--- `answers_checks::is_bad`
+-- `answers_bad::is_bad`
 abbrev pub IsBad : Type 0
 IsBad = (code : ℕ) (r : Bool) → r ≡ bad code → Answers (bad code) r
 
--- `answers_checks::first_bad`
+-- `answers_bad::first_bad`
 abbrev pub FirstBad : Type 0
 FirstBad = (text : List ℕ) (r : ℕ) → r ≡ firstBad text → Answers (firstBad text) r
 

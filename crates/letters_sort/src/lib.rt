@@ -36,7 +36,7 @@ pub fn sort_of(code: u32) -> Sort
 pub fn sorter(code: u32) -> Sorted
     ensures { λ r. ⌜ sorted r ≡ verdict (badCodePoint (code ∷ [])) (sortOf code) ⌝ }
 {
-    if answers_checks::is_bad(code) {
+    if answers_bad::is_bad(code) {
         return Sorted::Refused(Refusal::BadCodePoint(0));
     }
     Sorted::Is(sort_of(code))

@@ -32,7 +32,7 @@ pub fn parts_of(code: u32) -> Parts
 pub fn one_step(code: u32) -> Stepped
     ensures { λ r. ⌜ stepped r ≡ verdict (badCodePoint (code ∷ [])) (oneStep code) ⌝ }
 {
-    if answers_checks::is_bad(code) {
+    if answers_bad::is_bad(code) {
         return Stepped::Refused(Refusal::BadCodePoint(0));
     }
     Stepped::Into(parts_of(code))

@@ -82,11 +82,11 @@ fn check_two(first: &[u32], second: &[u32]) -> Checked
     if answers_checks::LIMIT < second.len() {
         return Checked::Refused(Refusal::OverLimit(answers_checks::LIMIT));
     }
-    let bad = answers_checks::first_bad(first);
+    let bad = answers_bad::first_bad(first);
     if bad < first.len() {
         return Checked::Refused(Refusal::BadCodePoint(bad));
     }
-    let other = answers_checks::first_bad(second);
+    let other = answers_bad::first_bad(second);
     if other < second.len() {
         return Checked::Refused(Refusal::BadCodePoint(other));
     }

@@ -1,4 +1,4 @@
--- `answers_checks::first_bad` meets its contract. The loop's invariant: i and the first bad one of what is left make up the index wanted.
+-- `answers_bad::first_bad` meets its contract. The loop's invariant: i and the first bad one of what is left make up the index wanted.
 -- Assumes nothing.
 use mathlib.Core.Path.{_≡_, sym, _∙_}
 use Prim.Native.Nat.{_≤_, _-_, _+_}
@@ -6,8 +6,8 @@ use lib.ListN.{length, drop}
 use borrow.Author.Needs.{needs}
 use Rattle.answers.specs.Checks.{firstBad}
 use Rattle.answers.proofs.Checks.{first-bad-next, first-bad-here, first-bad-end}
-use Rattle.answers_checks.proofs.first_bad.Statement.{statement}
-use Rattle.answers_checks.proofs.first_bad.Tie as tie
+use Rattle.answers_bad.proofs.first_bad.Statement.{statement}
+use Rattle.answers_bad.proofs.first_bad.Tie as tie
 
 abbrev Inv-loop : tie.InvT-loop
 Inv-loop text i₀ i = (i ≤ length text) × (i + firstBad (drop i text) ≡ firstBad text)

@@ -1,10 +1,10 @@
--- `answers_checks::is_bad` meets its contract: at each return the range that the code point lies in is known, and a law says what `bad` is there.
+-- `answers_bad::is_bad` meets its contract: at each return the range that the code point lies in is known, and a law says what `bad` is there.
 -- Assumes nothing.
 use mathlib.Core.Path.{sym}
 use native.Mathlib.Omega.{arith}
 use Rattle.answers.proofs.Checks.{good-low, good-high, bad-surrogate, bad-over}
-use Rattle.answers_checks.proofs.is_bad.Statement.{statement}
-use Rattle.answers_checks.proofs.is_bad.Tie as tie
+use Rattle.answers_bad.proofs.is_bad.Statement.{statement}
+use Rattle.answers_bad.proofs.is_bad.Tie as tie
 
 returns : tie.Need-returns
 returns c = sym (good-low _ (omega arith))
