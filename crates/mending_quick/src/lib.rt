@@ -32,7 +32,7 @@ fn finished_at(text: &[u8], at: usize) -> Taken
     let first = text[at];
     let second = text[at + 1];
     let third = text[at + 2];
-    if !mending_bytes::is_three(first, second, third, mending_bytes::byte(text, at + 3)) {
+    if !mending_three::is_three(first, second, third, mending_bytes::byte(text, at + 3)) {
         return mending_tail::none();
     }
     Taken {

@@ -1,5 +1,5 @@
 // Bytes that pass: characters from A000 to D7FF behind which nothing can join, never more than there are.
-// Not here: what single bytes are (crate mending_bytes), ASCII (crate mending_ascii), runs of both (crate mending_passing).
+// Not here: what one, two or three bytes are (crates mending_bytes, mending_three), ASCII (crate mending_ascii), runs of both (crate mending_passing).
 ghost use Prim.Native.Nat.{_≤_};
 ghost use lib.ListN.{length};
 ghost use Rattle.mending.specs.Steps.{Passes};
@@ -12,7 +12,7 @@ fn threes(text: &[u8], from: usize) -> usize
 {
     let mut at = from;
     while text.len() - at >= 4 {
-        if !mending_bytes::is_lead(text[at], text[at + 1]) {
+        if !mending_three::is_lead(text[at], text[at + 1]) {
             return at;
         }
         if !mending_bytes::is_continuation(text[at + 2]) {
@@ -34,7 +34,7 @@ fn last_three(text: &[u8], at: usize) -> usize
     if text.len() - at != 3 {
         return at;
     }
-    if !mending_bytes::is_three(text[at], text[at + 1], text[at + 2], 0) {
+    if !mending_three::is_three(text[at], text[at + 1], text[at + 2], 0) {
         return at;
     }
     at + 3

@@ -77,7 +77,7 @@ fn next_at(text: &[u8], at: usize) -> Next
     ensures { λ r. ⌜ Begins mendedFrom (now (text .entry)) at r ⌝ }
 {
     let taken = mending_quick::character_at(text, at);
-    ranking_state::next_of(taken.code, taken.size)
+    ranking_front::next_of(taken.code, taken.size)
 }
 
 // One step.

@@ -1,35 +1,11 @@
-// Crate ranking_state: what goes into a step along two texts and comes out of it: the front that a character is, and what a state says.
-// Not here: the step itself (crates ranking_step, ranking_walk), where the characters come from (crates ranking_text, ranking_bytes).
+// Crate ranking_state: what a state says: whether the answer is still to be found, whether an item begins, and the answer.
+// Not here: the front that a character is (crate ranking_front), the step itself (crates ranking_step, ranking_walk), where the characters come from (crates ranking_text, ranking_bytes).
 use ranking::order::Order;
 use ranking::step::At;
-use ranking::step::Front;
-use ranking::step::Next;
 use ranking::step::State;
 ghost use mathlib.Core.Path.{_≡_};
 ghost use mathlib.Core.List.{[]};
-ghost use Rattle.ranking.specs.Steps.{nextOf, rankFrom, goesOnAs, isApartAs};
-
-// A character of so many elements, as a front.
-pub fn next_of(code: u32, size: usize) -> Next
-    ensures { λ r. ⌜ r ≡ nextOf code size ⌝ }
-{
-    if size == 0 {
-        return Next {
-            front: Front::End,
-            size: 0,
-        };
-    }
-    match code {
-        0x30..=0x39 => Next {
-            front: Front::Digit(code - 0x30),
-            size,
-        },
-        _ => Next {
-            front: Front::Other(code),
-            size,
-        },
-    }
-}
+ghost use Rattle.ranking.specs.Steps.{rankFrom, goesOnAs, isApartAs};
 
 // Is the answer still to be found?
 pub fn goes_on(s: At) -> bool

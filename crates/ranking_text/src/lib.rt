@@ -31,18 +31,18 @@ fn next_at(text: &[u32], at: usize) -> Next
     ensures { λ r. ⌜ Begins joinedFrom (now (text .entry)) at r ⌝ }
 {
     if text.len() <= at {
-        return ranking_state::next_of(0, 0);
+        return ranking_front::next_of(0, 0);
     }
     let first = text[at];
     let two = joining_role::joined(first, code(text, at + 1));
     if two == 0 {
-        return ranking_state::next_of(first, 1);
+        return ranking_front::next_of(first, 1);
     }
     let three = joining_role::joined(two, code(text, at + 2));
     if three == 0 {
-        return ranking_state::next_of(two, 2);
+        return ranking_front::next_of(two, 2);
     }
-    ranking_state::next_of(three, 3)
+    ranking_front::next_of(three, 3)
 }
 
 // One step.

@@ -1,8 +1,8 @@
--- `ranking_state::next_of` meets its contract: no elements are the end; else the code point is a digit or it is not.
+-- `ranking_front::next_of` meets its contract: no elements are the end; else the code point is a digit or it is not.
 -- Assumes nothing.
 use Rattle.ranking.proofs.Texts.{next-end, next-digit, next-below, next-above}
-use Rattle.ranking_state.proofs.next_of.Statement.{statement}
-use Rattle.ranking_state.proofs.next_of.Tie as tie
+use Rattle.ranking_front.proofs.next_of.Statement.{statement}
+use Rattle.ranking_front.proofs.next_of.Tie as tie
 
 returns : tie.Need-returns
 returns c = next-end _ _ (c .if1 .taken)

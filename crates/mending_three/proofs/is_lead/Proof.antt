@@ -1,12 +1,12 @@
--- `mending_bytes::is_lead` meets its contract: the two bounds of the number, and the test of the second byte, are all that is asked.
+-- `mending_three::is_lead` meets its contract: the two bounds of the number, and the test of the second byte, are all that is asked.
 -- Assumes nothing.
 use Rattle.mending.proofs.Passes.{lead-number}
 use native.Mathlib.Omega.{arith}
 use mathlib.Core.Bool.{false≢true}
 use mathlib.Core.Path.{sym, _∙_}
 use borrow.Author.Needs.{needs}
-use Rattle.mending_bytes.proofs.is_lead.Statement.{statement}
-use Rattle.mending_bytes.proofs.is_lead.Tie as tie
+use Rattle.mending_three.proofs.is_lead.Statement.{statement}
+use Rattle.mending_three.proofs.is_lead.Tie as tie
 
 mul-both : tie.Need-mul-both
 mul-both c = search needs

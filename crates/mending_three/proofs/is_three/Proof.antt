@@ -1,10 +1,10 @@
--- `mending_bytes::is_three` meets its contract: what passes all its tests is a character from A000 to D7FF, with no E1 behind it.
+-- `mending_three::is_three` meets its contract: what passes all its tests is a character from A000 to D7FF, with no E1 behind it.
 -- Assumes nothing.
 use mathlib.Core.Bool.{false≢true}
 use borrow.Author.Tests.{ltb-true}
 use borrow.Author.Needs.{needs}
-use Rattle.mending_bytes.proofs.is_three.Statement.{statement}
-use Rattle.mending_bytes.proofs.is_three.Tie as tie
+use Rattle.mending_three.proofs.is_three.Statement.{statement}
+use Rattle.mending_three.proofs.is_three.Tie as tie
 
 returns : tie.Need-returns
 returns c = λ q. absurd (false≢true q)
