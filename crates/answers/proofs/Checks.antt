@@ -16,7 +16,8 @@ use Rattle.laws.specs.Ranges.{within}
 use Rattle.laws.proofs.Bools.{test, or-left, or-right}
 use Rattle.laws.proofs.Lists.{all-at}
 use Rattle.laws.proofs.Ranges.{within-yes, within-below, within-above, within-not}
-use Rattle.answers.specs.Checks.{Check, passes, refuses, overLimit, bad, firstBad, badCodePoint, noRoom, lacking, takesText, takesBytes}
+use Rattle.answers.specs.Checks.{passes, refuses, overLimit, bad, firstBad, badCodePoint, noRoom, lacking, takesText, takesBytes}
+use Rattle.answers.proofs.Orders.{passes-refuses, order-first, passes-false}
 
 -- ---- bad, by the ranges
 
@@ -54,11 +55,6 @@ module _ (l : List ℕ) (i n : ℕ) where
   unfolding firstBad
   first-bad-end h q = omega (arith, simp (drop-of-length-le l h) at q)
 
--- ---- a check passes or refuses, never both
-
-pub passes-refuses : {number place : ℕ} → passes ≡ refuses number place → ⊥
-passes-refuses e = let z : _≡_ {A = ℕ} 0 1 = cc in omega arith
-
 -- ---- each check, where it refuses and where it passes
 
 pub over-limit-refuses : (limit size : ℕ) → limit < size → overLimit limit size ≡ refuses 1 limit
@@ -68,6 +64,11 @@ over-limit-refuses limit size h = simp (lt-ltb limit size h)
 pub over-limit-passes : (limit size : ℕ) → size ≤ limit → overLimit limit size ≡ passes
 unfolding overLimit
 over-limit-passes limit size h = simp (le-ltb limit size h)
+
+-- back: what is not refused is within the limit
+pub over-limit-kept : (limit size : ℕ) → overLimit limit size ≡ passes → size ≤ limit
+unfolding overLimit
+over-limit-kept limit size e = ltb-false limit size (passes-false (ltb limit size) 1 limit e)
 
 pub bad-code-point-refuses : (text : List ℕ) → firstBad text < length text → badCodePoint text ≡ refuses 2 (firstBad text)
 unfolding badCodePoint
@@ -143,9 +144,8 @@ module _ (text : List ℕ) where
 
   -- back: a text that is taken is within the limit
   pub text-short : takesText text ≡ passes → length text ≤ 16384
-  text-short e =
-      test (ltb 16384 (length text)) (λ h. absurd (passes-refuses (sym e ∙ text-over (ltb-true 16384 (length text) h))))
-      (λ h. ltb-false 16384 (length text) h)
+  unfolding takesText
+  text-short e = over-limit-kept 16384 (length text) (order-first (overLimit 16384 (length text)) (badCodePoint text ∷ []) e)
 
 -- ---- a text with no bad code point
 
@@ -169,9 +169,8 @@ module _ (bytes : List ℕ) where
   bytes-taken h = over-limit-passes 16384 (length bytes) h
 
   pub bytes-short : takesBytes bytes ≡ passes → length bytes ≤ 16384
-  bytes-short e =
-      test (ltb 16384 (length bytes)) (λ h. absurd (passes-refuses (sym e ∙ bytes-over (ltb-true 16384 (length bytes) h))))
-      (λ h. ltb-false 16384 (length bytes) h)
+  unfolding takesBytes
+  bytes-short e = over-limit-kept 16384 (length bytes) e
 
 -- ---- back: a code point that is not bad, and a text that is taken
 

@@ -1,5 +1,6 @@
 -- The ways in which a call returns, one law each: of a call that takes one code point, and of a call that fills a lent buffer, for any check,
--- elements and value; that any two results that the scheme admits are equal (`fills-unique`); and what a call that is done says (`fills-done`).
+-- elements and value; that any two results that the scheme admits are equal (`fills-unique`); and what a call that is done says and leaves
+-- (`fills-done`, `fills-front`).
 -- Not here: the checks by themselves (proofs/Checks).
 -- Assumes nothing.
 use mathlib.Core.Path.{_≡_, refl, sym, _∙_, ap}
@@ -7,9 +8,10 @@ use mathlib.Core.Bool.{Bool, true, false}
 use mathlib.Core.List.{List, [], _∷_}
 use Prim.Native.Nat.{ℕ, _≤_, _<_}
 use native.Mathlib.Omega.{arith}
-use lib.ListN.{length}
+use lib.ListN.{length, take, drop}
+use lib.Seq.{take-append-seam}
 use Rattle.laws.specs.Writing.{front, Fronts}
-use Rattle.answers.specs.Checks.{Check, passes, refuses, inOrder, noRoom, bad, badCodePoint, lacking, takesText}
+use Rattle.answers.specs.Checks.{Check, passes, refuses, noRoom, bad, badCodePoint, lacking, takesText}
 use Rattle.answers.specs.Verdicts.{Verdict, done, refused, verdict, after, fits, Fills}
 use Rattle.answers.specs.Answers.{checked, Makes}
 use Rattle.answers.specs.declared.Refusal.{Refusal}
@@ -19,6 +21,7 @@ use Rattle.answers.specs.declared.Checked.the-variants.{Passed, Refused 
 use Rattle.answers.specs.declared.Filled.{Filled}
 use Rattle.answers.specs.declared.Filled.the-variants.{Done, Refused}
 use Rattle.answers.proofs.Answers.{filled-injective}
+use Rattle.answers.proofs.Orders.{order-first}
 use Rattle.answers.proofs.Checks.{code-bad, code-good, no-room-refuses, no-room-passes, lacking-size, lacking-less, lacking-room}
 
 -- ---- a call that takes one code point: b is what the test for a bad one answered
@@ -58,15 +61,16 @@ done-is : {A Value : Type 0} (check : Check) (value : Value) (whole out : List A
 done-is passes value whole out e q = (refl, cc, q)
 done-is (refuses number place) value whole out e q = absurd (done-not-refused e)
 
-first-passes : (check next : Check) → inOrder (check ∷ next ∷ []) ≡ passes → check ≡ passes
-first-passes passes next e = refl
-first-passes (refuses number place) next e = e
-
 pub fills-done : {A Value : Type 0} {before : Check} {whole out : List A} {value answer : Value} {out′ : List A}
     → Fills before whole value out (done answer) out′ → (before ≡ passes) × (answer ≡ value) × (out′ ≡ front whole out)
 fills-done {before = before} {whole = whole} {out = out} {value = value} f =
     let h = done-is (fits before whole out) value whole out (f .answers) (f .leaves) in
-    (first-passes before (noRoom (length out) (length whole)) (h .0), h .1, h .2)
+    (order-first before (noRoom (length out) (length whole) ∷ []) (h .0), h .1, h .2)
+
+-- and the front of its buffer is what it writes
+pub fills-front : {A Value : Type 0} {before : Check} {whole out : List A} {value answer : Value} {out′ : List A}
+    → Fills before whole value out (done answer) out′ → {n : ℕ} → n ≡ length whole → take n out′ ≡ whole
+fills-front {whole = whole} {out = out} f e = rw (e, fills-done f .2) (take-append-seam whole (drop (length whole) out))
 
 -- the checks passed
 pub checks-passed : {v : Checked} {before : Check} → checked v ≡ before → v ≡ Passed → before ≡ passes

@@ -1,7 +1,7 @@
 -- The general laws behind demand 1: a call that answers by its checks in order, and leaves its buffer by them, keeps the demand; and the demand leaves it
 -- no choice. Not here: the calls (crate demands_calls), each check by itself (crate answers, proofs/Checks).
 --
--- In order: checks in order (`flattened`); what is left by a check (`kept`, `after-kept`); FROM THE CONTRACT TO THE DEMAND (`demanded`): of a call that
+-- In order: what is left by a check (`kept`, `after-kept`); FROM THE CONTRACT TO THE DEMAND (`demanded`): of a call that
 -- is lent nothing (`answered`, `answered-one`), that refuses nothing (`answers-done`), that fills a lent buffer (`filled-demanded`, `filled-alone`);
 -- THE DEMAND ADMITS ONE RESULT (`results-same`, `results-one`). Assumes nothing.
 use mathlib.Core.Path.{_≡_, refl, sym, _∙_}
@@ -12,16 +12,8 @@ use Rattle.laws.specs.Writing.{front}
 use Rattle.answers.specs.Checks.{Check, passes, refuses, inOrder, noRoom}
 use Rattle.answers.specs.Verdicts.{Verdict, verdict, after, fits, Fills}
 use Rattle.answers.proofs.Verdicts.{done-not-refused}
-use Rattle.labels.proofs.Orders.{order-one}
+use Rattle.answers.proofs.Orders.{order-one, order-flat}
 use Rattle.demands.specs.Demand1.{Demand1, Answers}
-
--- ---- checks in order
-
--- checks in order that stand first among others are these checks, and then the others
-pub flattened : (checks more : List Check) → inOrder (inOrder checks ∷ more) ≡ inOrder (checks ++ more)
-flattened [] more = refl
-flattened (passes ∷ checks) more = flattened checks more
-flattened (refuses number place ∷ checks) more = refl
 
 -- ---- what is left by a check: the buffer filled where it passes, and as it was where it refuses
 
@@ -79,7 +71,7 @@ module _ {Value A : Type 0} {value : Value} {whole out : List A} {answer : Verdi
       → Demand1 (checks ++ noRoom (length out) (length whole) ∷ []) value out (front whole out) answer out′
   filled-demanded {before} checks e f =
       let more : List Check = noRoom (length out) (length whole) ∷ [] in
-      let q : fits before whole out ≡ inOrder (checks ++ more) = rw e (flattened checks more) in
+      let q : fits before whole out ≡ inOrder (checks ++ more) = rw e (order-flat checks more) in
       demanded (checks ++ more) (rw q at (f .answers)) (rw q at (f .leaves ∙ after-kept (fits before whole out) whole out))
 
   -- one check alone precedes 3

@@ -4,14 +4,13 @@ use mathlib.Core.Path.{_≡_, sym, _∙_, ap}
 use mathlib.Core.List.{List, [], _∷_}
 use Prim.Native.Nat.{ℕ, _+_}
 use native.Mathlib.Omega.{arith}
-use lib.ListN.{length, take, drop}
-use lib.Seq.{take-append-seam}
+use lib.ListN.{length, take}
 use Rattle.laws.specs.Pieces.{pieces}
 use Rattle.answers.specs.Checks.{Check, passes, refuses, badCodePoint}
-use Rattle.answers.specs.Verdicts.{done, verdict, Fills}
+use Rattle.answers.specs.Verdicts.{done, verdict}
 use Rattle.answers.specs.Answers.{Makes}
 use Rattle.answers.specs.declared.Filled.the-variants.{Done}
-use Rattle.answers.proofs.Verdicts.{done-not-refused, fills-done}
+use Rattle.answers.proofs.Verdicts.{done-not-refused, fills-done, fills-front}
 use Rattle.letters.proofs.Steps.{index-made}
 use Rattle.letters.proofs.Chapter3.{step-mapping, full-decomposition}
 use Rattle.joining.proofs.Calls.{parts-call}
@@ -25,13 +24,9 @@ use Rattle.names.proofs.NR1.{name-nr1}
 use Rattle.names.proofs.Found.{passes-syllable, names-whole, names-unique, read-named as call-named, name-read as call-read}
 use Rattle.demands.specs.Demand2 as demand
 
--- what a call that is done filled: the front of the buffer, as long as the whole
-filled : {A Value : Type 0} {before : Check} {whole out out′ : List A} {value answer : Value} → Fills before whole value out (done answer) out′
-    → {n : ℕ} → n ≡ length whole → take n out′ ≡ whole
-filled {whole = whole} {out = out} f e = rw (e, fills-done f .2) (take-append-seam whole (drop (length whole) out))
-
+-- what a call that is done made of a text
 made : (make : List ℕ → List ℕ) {text out out′ : List ℕ} {n : ℕ} → Makes make text out (Done n) out′ → take n out′ ≡ make text
-made make h = filled (h .fills) (fills-done (h .fills) .1)
+made make h = fills-front (h .fills) (fills-done (h .fills) .1)
 
 -- what a call that is done answers
 answer-is : {Value : Type 0} {answer value : Value} (check : Check) → done answer ≡ verdict check value → answer ≡ value
@@ -56,14 +51,14 @@ reading-utf8 text out out′ c h =
     record {
       pieces = pieces kindOf text;
       read = reading8 text;
-      codes-are = λ P r. filled (h .fills) (ap (λ c. c .length) (d .1)) ∙ rw (reading8-unique r);
+      codes-are = λ P r. fills-front (h .fills) (ap (λ c. c .length) (d .1)) ∙ rw (reading8-unique r);
       ills-are = λ P r. ap (λ c. c .ills) (d .1) ∙ rw (reading8-unique r);
     }
 
 pub naming : demand.Naming
 naming code out out′ n h =
     let d = fills-done (h .fills) in
-    filled (h .fills) (d .1) ∙ name-nr1 code (passes-syllable code (d .0))
+    fills-front (h .fills) (d .1) ∙ name-nr1 code (passes-syllable code (d .0))
 
 pub read-named : demand.ReadNamed
 read-named s n out out′ r h k = call-named h k

@@ -14,7 +14,6 @@ use Prim.Native.Nat.{ℕ, _+_, _*_, _^_, _≤_, _<_}
 use native.Mathlib.Omega.{arith}
 use lib.Dec.{leb, eqb}
 use lib.ListN.{length, take, drop, take-append-drop}
-use lib.Seq.{take-append-seam}
 use borrow.Author.Tests.{leb-true, le-leb, eqb-true, eq-eqb}
 use Rattle.laws.specs.Lists.{All}
 use Rattle.laws.specs.Writing.{front}
@@ -25,7 +24,7 @@ use Rattle.answers.specs.declared.Checked.{Checked}
 use Rattle.answers.specs.declared.Checked.the-variants.{Passed}
 use Rattle.answers.proofs.Answers.{refusedBy-injective, checked-injective}
 use Rattle.answers.proofs.Checks.{bytes-taken}
-use Rattle.answers.proofs.Verdicts.{filled-whole, fills-unique, fills-done}
+use Rattle.answers.proofs.Verdicts.{filled-whole, fills-unique, fills-done, fills-front}
 use Rattle.letters.specs.Syllables.{fullParts}
 use Rattle.utf8.specs.Utf8.{readText, illText}
 use Rattle.mending.proofs.Round.{mended-ills}
@@ -41,7 +40,7 @@ use Rattle.labels.specs.declared.image.Judged.the-variants.{Records, Ref
 use Rattle.labels.specs.declared.image.Form.{Form}
 use Rattle.labels.specs.declared.image.Form.the-variants.{AsGiven, Joined}
 use Rattle.labels.proofs.Records.{record-length, record-object, record-berth, record-size, record-label}
-use Rattle.labels.proofs.Orders.{order-first, order-rest, passes-true}
+use Rattle.answers.proofs.Orders.{order-first, order-rest, passes-true}
 use Rattle.labels.proofs.Layouts.{layout-good, written-passes, record-back}
 use Rattle.labels.proofs.Images.{at-length, replaced-length, replaced-here, replaced-other, replaced-same, number-inside}
 use Rattle.labels.proofs.Finding.{taken-inside, taken-layout, taken-short, taken-size, taken-over, taken-number}
@@ -242,8 +241,7 @@ pub written-back : (image : List ℕ) (k : ℕ) (out : List ℕ) {e : Entry} {ou
 written-back image k out {e} {out′} all f w =
     let d = fills-done (f .fills) in
     let label : take (e .length) out′ ≡ labelOf (recordAt image k) =
-    ap (λ (n : ℕ). take n out′) (ap (λ (x : Entry). x .length) (d .1) ∙ sym (taken-size image k (d .0)))
-    ∙ ap (take (length (labelOf (recordAt image k)))) (d .2) ∙ take-append-seam (labelOf (recordAt image k)) _ in
+    fills-front (f .fills) (ap (λ (x : Entry). x .length) (d .1) ∙ sym (taken-size image k (d .0))) in
     back-writes image k all (d .0) (rw (label, d .1) at w)
 
 -- ---- THE OTHER RECORDS ARE KEPT

@@ -11,7 +11,6 @@ use Prim.Native.Nat.{ℕ, _+_, _-_, _*_, _≤_, _<_}
 use native.Mathlib.Omega.{arith}
 use lib.ListN.{length, take, drop, length-drop, take-append-drop}
 use lib.Seq.{length-take-le, take-append-le, drop-append-le, drop-drop}
-use Rattle.laws.specs.Writing.{front}
 use Rattle.answers.specs.Checks.{passes, refuses, inOrder}
 use Rattle.answers.specs.Answers.{checked}
 use Rattle.answers.specs.declared.Refusal.{Refusal}
@@ -23,7 +22,7 @@ use Rattle.labels.specs.Records.{sizeOf, labelOf, entryOf, layout}
 use Rattle.labels.specs.Images.{recordAt, overImage, noRecord, takesRecord, Finds, entryAt}
 use Rattle.labels.specs.declared.layout.Entry.{Entry}
 use Rattle.labels.specs.declared.image.Found.the-variants.{Record, Refused}
-use Rattle.labels.proofs.Orders.{order-first, order-rest, order-one}
+use Rattle.answers.proofs.Orders.{order-first, order-rest, order-one}
 use Rattle.labels.proofs.Layouts.{label-length, layout-good}
 use Rattle.labels.specs.Steps.{copied}
 use Rattle.labels.proofs.Images.{at-length, entry-inside, image-over, image-within, number-inside}

@@ -1,13 +1,13 @@
 -- The records of an image, and what its calls check.
 --
 -- In order: a record in an image (`at-length`), and an image with another record (`replaced-length`, `replaced-here`, `replaced-other`,
--- `replaced-same`); the checks 1 and 6 (`image-over`, `image-within`, `number-uneven`, `number-beyond`, `number-in`, `number-inside`,
+-- `replaced-same`); the checks 1 and 6 (`image-over`, `image-within`, `taken-short`, `taken-count`, `number-uneven`, `number-beyond`, `number-in`, `number-inside`,
 -- `image-uneven`, `image-even`).
 -- Not here: the ways in which the calls return (proofs/Finding, proofs/Judging, proofs/Storing).
 -- Assumes nothing.
 use mathlib.Core.Path.{_≡_, sym, _∙_, ap}
 use mathlib.Core.Bool.{_&&_}
-use mathlib.Core.List.{List, _++_, append-assoc}
+use mathlib.Core.List.{List, [], _∷_, _++_, append-assoc}
 use Prim.Native.Nat.{ℕ, _+_, _-_, _*_, _/_, _%_, _≤_, _<_}
 use native.Mathlib.Omega.{arith}
 use lib.Dec.{ltb, eqb}
@@ -16,11 +16,11 @@ use lib.Seq.{length-take-le, take-at, drop-at, take-append-le, drop-append-le, d
 use borrow.Author.Tests.{lt-ltb, le-ltb, ltb-true, ltb-false, eq-eqb, ne-eqb}
 use Rattle.laws.proofs.Bools.{test, and-right}
 use Rattle.answers.specs.Checks.{passes, refuses}
-use Rattle.answers.proofs.Checks.{over-limit-refuses, over-limit-passes}
+use Rattle.answers.proofs.Orders.{order-first, passes-true}
+use Rattle.answers.proofs.Checks.{over-limit-refuses, over-limit-passes, over-limit-kept}
 use Rattle.labels.specs.Records.{entryOf, layout}
-use Rattle.labels.specs.Images.{recordAt, replaced, countOf, overImage, noImage, noRecord, entryAt}
+use Rattle.labels.specs.Images.{recordAt, replaced, countOf, overImage, noImage, layoutsFrom, noRecord, takesImage, entryAt}
 use Rattle.labels.specs.Steps.{faulty}
-use Rattle.labels.proofs.Orders.{passes-true}
 
 -- ---- a record in its image
 
@@ -90,6 +90,15 @@ module _ (image : List ℕ) where
   pub image-within : length image ≤ 65472 → overImage image ≡ passes
   unfolding overImage
   image-within h = over-limit-passes 65472 (length image) h
+
+  -- back: an image that is taken has at most 65,472 bytes, and so at most 682 records
+  pub taken-short : takesImage image ≡ passes → length image ≤ 65472
+  unfolding takesImage overImage
+  taken-short e =
+      over-limit-kept 65472 (length image) (order-first (overImage image) (noImage image ∷ layoutsFrom image 0 (countOf image) ∷ []) e)
+
+  pub taken-count : takesImage image ≡ passes → countOf image ≤ 682
+  taken-count e = omega (arith, taken-short e)
 
   pub image-uneven : (length image % 96 ≡ 0 → ⊥) → noImage image ≡ refuses 6 (length image)
   unfolding noImage

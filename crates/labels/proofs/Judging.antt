@@ -23,7 +23,7 @@ use Rattle.labels.specs.Records.{layout}
 use Rattle.labels.specs.Images.{recordAt, countOf, overImage, noImage, layoutsFrom, badFrom, takesImage, badRecord, Judges}
 use Rattle.labels.specs.Steps.{faulty}
 use Rattle.labels.specs.declared.image.Judged.the-variants.{Records, Refused, BadRecord}
-use Rattle.labels.proofs.Orders.{order-refused, order-passed, order-one}
+use Rattle.answers.proofs.Orders.{order-refused, order-passed, order-one}
 use Rattle.labels.proofs.Images.{image-over, image-within, image-uneven, image-even}
 
 -- ---- a byte as a check

@@ -24,7 +24,7 @@ use Rattle.labels.specs.Records.{firstIll, firstSet, tooLong, notSpare, 
 use Rattle.labels.specs.Steps.{faulty}
 use Rattle.labels.proofs.Numbers.{high-number, number-below}
 use Rattle.labels.proofs.Records.{record-size, record-label, record-spare, record-behind}
-use Rattle.labels.proofs.Orders.{order-first, order-rest, passes-true, passes-false}
+use Rattle.answers.proofs.Orders.{order-first, order-rest, passes-true, passes-false}
 use Rattle.labels.proofs.Places.{ill-none, formed-end, set-zeros, zeros-set}
 
 -- ---- the judge of a record: r and s are the indices that it found

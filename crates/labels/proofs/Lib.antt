@@ -2,7 +2,6 @@
 -- Not here: the definitions (specs/), and the proofs of the functions, which stand in folders of their own.
 pub mod Numbers
 pub mod Records
-pub mod Orders
 pub mod Places
 pub mod Layouts
 pub mod Images

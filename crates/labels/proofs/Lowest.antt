@@ -15,12 +15,11 @@ use borrow.Author.Tests.{eqb-true, eqb-false}
 use Rattle.laws.proofs.Bools.{test}
 use Rattle.answers.specs.Checks.{Check, passes, refuses, inOrder}
 use Rattle.answers.specs.Verdicts.{done, refused, verdict}
-use Rattle.answers.proofs.Checks.{passes-refuses}
 use Rattle.answers.proofs.Verdicts.{done-not-refused}
 use Rattle.labels.specs.Records.{layout}
 use Rattle.labels.specs.Images.{recordAt, countOf, overImage, noImage, layoutsFrom, orElse, badFrom, onlyIf, takesImage, badRecord, Judges}
 use Rattle.labels.specs.declared.image.Judged.the-variants.{Records, BadRecord}
-use Rattle.labels.proofs.Orders.{order-first, order-rest, order-one, order-passed}
+use Rattle.answers.proofs.Orders.{passes-refuses, order-first, order-rest, order-one, order-passed}
 
 -- ---- a verdict and what it was made of
 

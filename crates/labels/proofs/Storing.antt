@@ -39,7 +39,7 @@ use Rattle.labels.specs.declared.image.Form.{Form}
 use Rattle.labels.specs.declared.image.Form.the-variants.{AsGiven, Joined}
 use Rattle.labels.proofs.Numbers.{four-bytes, two-bytes}
 use Rattle.labels.proofs.Records.{record-length}
-use Rattle.labels.proofs.Orders.{order-first, order-rest, order-one, order-refused, order-passed}
+use Rattle.answers.proofs.Orders.{order-first, order-rest, order-one, order-refused, order-passed}
 use Rattle.labels.proofs.Places.{ill-none, formed-end}
 use Rattle.labels.proofs.Copies.{copied-front}
 use Rattle.labels.proofs.Images.{image-over, image-within, number-inside}

@@ -12,8 +12,7 @@ use mathlib.Core.Bool.{false, false≢true}
 use mathlib.Core.List.{List, [], _∷_, _++_}
 use Prim.Native.Nat.{ℕ, _≤_}
 use native.Mathlib.Omega.{arith}
-use lib.ListN.{length, drop}
-use lib.Seq.{take-at}
+use lib.ListN.{length}
 use Rattle.laws.specs.Pieces.{Piece, ill, unitsOf, pieces}
 use Rattle.laws.specs.Damage.{mend, EndsWith, StartsWith, ending, beginning, Kept, Cuttable}
 use Rattle.laws.proofs.Lists.{each-nil, each-cons, each-one}
@@ -21,7 +20,7 @@ use Rattle.laws.specs.Places.{EndingPlace, BeginningFound}
 use Rattle.laws.proofs.Places.{ending-place, beginning-place}
 use Rattle.laws.proofs.Damage.{keeps, around-ill}
 use Rattle.answers.proofs.Checks.{bytes-short}
-use Rattle.answers.proofs.Verdicts.{fills-done}
+use Rattle.answers.proofs.Verdicts.{fills-done, fills-front}
 use Rattle.joining.specs.Roles.{Hard}
 use Rattle.joining.specs.Joining.{join}
 use Rattle.joining.proofs.Joins.{join-one, join-cut, mark-around}
@@ -89,9 +88,7 @@ mended-around t P u Q e =
 
 module _ {text out out′ : List ℕ} {r : Counted} (h : Reads mended text out (Done r) out′) where
   pub done-filled : filled r out′ ≡ mended text
-  done-filled =
-      let d = fills-done (h .fills) in
-      rw (d .1, d .2) (take-at (mended text) (drop (length (mended text)) out) _ refl)
+  done-filled = fills-front (h .fills) (ap (λ (c : Counted). c .length) (fills-done (h .fills) .1))
 
   pub done-ills : r .ills ≡ illText text
   done-ills = ap (λ (c : Counted). c .ills) (fills-done (h .fills) .1)

@@ -11,15 +11,14 @@ use mathlib.Core.List.{List, [], _∷_}
 use Prim.Native.Nat.{ℕ, zero, suc, _+_, _≤_, _<_}
 use native.Mathlib.Omega.{arith}
 use lib.Dec.{eqb}
-use lib.ListN.{length, take, drop}
-use lib.Seq.{take-append-seam}
+use lib.ListN.{length, take}
 use borrow.Author.Tests.{eqb-true, eqb-false}
 use Rattle.laws.specs.Strings.{same}
 use Rattle.laws.specs.Writing.{front}
 use Rattle.laws.proofs.Bools.{test}
 use Rattle.laws.proofs.Strings.{same-true, same-false}
 use Rattle.answers.specs.Checks.{Check, passes, refuses, inOrder, takesBytes}
-use Rattle.answers.specs.Verdicts.{done, refused, verdict}
+use Rattle.answers.specs.Verdicts.{done, verdict}
 use Rattle.answers.specs.Answers.{checked}
 use Rattle.answers.specs.declared.Refusal.{Refusal}
 use Rattle.answers.specs.declared.Refusal.the-variants.{NoName}
@@ -28,8 +27,9 @@ use Rattle.answers.specs.declared.Checked.the-variants.{Refused as CheckRefused
 use Rattle.answers.specs.declared.Filled.{Filled}
 use Rattle.answers.specs.declared.Filled.the-variants.{Done}
 use Rattle.answers.proofs.Answers.{filled-injective, refusedBy-injective}
-use Rattle.answers.proofs.Checks.{passes-refuses, bytes-taken}
-use Rattle.answers.proofs.Verdicts.{done-not-refused, fills-done, fills-unique, filled-whole}
+use Rattle.answers.proofs.Orders.{passes-refuses}
+use Rattle.answers.proofs.Checks.{bytes-taken}
+use Rattle.answers.proofs.Verdicts.{done-not-refused, fills-done, fills-front, fills-unique, filled-whole}
 use Rattle.letters.specs.Syllables.{isSyllable, initialOf, peakOf, finalOf}
 use Rattle.letters.proofs.Steps.{syllable, syllable-yes, syllable-least, syllable-most, syllable-made, initial-below, peak-below, final-below}
 use Rattle.letters.proofs.Steps.{initial-determined, peak-determined, final-determined}
@@ -196,11 +196,10 @@ names-whole s h room = record { fills = filled-whole (no-syllable-passes s h) ro
 
 -- THE NAME OF A SYLLABLE IS READ AS THE SYLLABLE
 pub read-named : {s k : ℕ} {out out′ : List ℕ} {r : Named} → Names s out (Done k) out′ → ReadsName (take k out′) r → r ≡ Syllable s
-read-named {s} {k} {out} {out′} f g =
+read-named {s} f g =
     let h = fills-done (f .fills) in
     let is = passes-syllable s (h .0) in
-    let front-is : take k out′ ≡ nameOf s = rw (h .1, h .2) (take-append-seam (nameOf s) (drop (length (nameOf s)) out)) in
-    reads-name-unique (rw front-is at g) (reads-some (bytes-taken (nameOf s) (omega (arith, syllable-name-most s))) (named-some s is))
+    reads-name-unique (rw (fills-front (f .fills) (h .1)) at g) (reads-some (bytes-taken (nameOf s) (omega (arith, syllable-name-most s))) (named-some s is))
 
 -- A NAME THAT IS READ IS THE SYLLABLE'S
 pub name-read : {name out out′ : List ℕ} {s : ℕ} {r : Filled} → ReadsName name (Syllable s) → length name ≤ length out → Names s out r out′

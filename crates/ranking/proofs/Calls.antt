@@ -4,14 +4,10 @@
 -- `ranks-unique`, `ranks-bytes-unique`); RANKING UTF-8 IS RANKING WHAT MENDING READS (`two-taken`, `two-bytes-taken`, `read-filled`, `rank-reads`),
 -- and mended texts stand as the texts do (`rank-mends`).
 -- Not here: the rank itself (proofs/Ranks). Assumes nothing.
-use mathlib.Core.Path.{_≡_, refl, sym, _∙_, ap}
+use mathlib.Core.Path.{_≡_, sym, _∙_, ap}
 use mathlib.Core.List.{List, [], _∷_}
 use Prim.Native.Nat.{ℕ, _≤_, _<_}
-use lib.Dec.{ltb}
-use lib.ListN.{length, take, drop}
-use lib.Seq.{take-at}
-use borrow.Author.Tests.{ltb-true, ltb-false}
-use Rattle.laws.proofs.Bools.{test}
+use lib.ListN.{length, take}
 use Rattle.answers.specs.Checks.{Check, passes, refuses, inOrder, overLimit, firstBad, badCodePoint, takesText, takesBytes}
 use Rattle.answers.specs.Verdicts.{done}
 use Rattle.answers.specs.Answers.{checked}
@@ -19,9 +15,10 @@ use Rattle.answers.specs.declared.Refusal.{Refusal}
 use Rattle.answers.specs.declared.Checked.{Checked}
 use Rattle.answers.specs.declared.Checked.the-variants.{Passed, Refused as CheckRefused}
 use Rattle.answers.proofs.Answers.{refusedBy-injective}
-use Rattle.answers.proofs.Checks.{over-limit-refuses, over-limit-passes, bad-code-point-refuses, bad-code-point-passes, bytes-taken, bytes-short}
-use Rattle.answers.proofs.Checks.{passes-refuses}
-use Rattle.answers.proofs.Verdicts.{fills-done}
+use Rattle.answers.proofs.Orders.{order-first, order-rest, order-one}
+use Rattle.answers.proofs.Checks.{over-limit-refuses, over-limit-passes, over-limit-kept, bad-code-point-refuses, bad-code-point-passes}
+use Rattle.answers.proofs.Checks.{bytes-taken, bytes-short}
+use Rattle.answers.proofs.Verdicts.{fills-done, fills-front}
 use Rattle.utf8.specs.Utf8.{readText}
 use Rattle.utf8.specs.Reading.{Reads}
 use Rattle.utf8.specs.declared.read.Counted.{Counted}
@@ -88,28 +85,17 @@ module _ (first second : List ℕ) {v : Checked} (said : checked v ≡ takesByte
 
   pub bytes-second : v ≡ Passed → (w : Checked) → checked w ≡ takesBytes second → checked w ≡ takesTwoBytes first second
   unfolding takesTwoBytes
-  bytes-second e w q = rw (← said, e) (q ∙ sym (alone (takesBytes second)))
-    where
-      alone : (c : Check) → inOrder (c ∷ []) ≡ c
-      alone passes = refl
-      alone (refuses number place) = refl
+  bytes-second e w q = rw (← said, e) (q ∙ sym (order-one (takesBytes second)))
 
--- where checks pass in order, each passes
+-- where checks pass in order, the first two pass
 both-pass : (a b : Check) (more : List Check) → inOrder (a ∷ b ∷ more) ≡ passes → (a ≡ passes) × (b ≡ passes)
-both-pass passes passes more e = (refl, refl)
-both-pass passes (refuses n p) more e = (refl, e)
-both-pass (refuses n p) b more e = (e, absurd (passes-refuses (sym e)))
-
-limit-kept : (size : ℕ) → overLimit 16384 size ≡ passes → size ≤ 16384
-limit-kept size e =
-    test (ltb 16384 size) (λ h. absurd (passes-refuses (sym e ∙ over-limit-refuses 16384 size (ltb-true 16384 size h))))
-    (λ h. ltb-false 16384 size h)
+both-pass a b more e = (order-first a (b ∷ more) e, order-first b more (order-rest a (b ∷ more) e))
 
 pub two-short : (first second : List ℕ) → takesTwo first second ≡ passes → (length first ≤ 16384) × (length second ≤ 16384)
 unfolding takesTwo
 two-short first second e =
     let p = both-pass (overLimit 16384 (length first)) (overLimit 16384 (length second)) (badCodePoint first ∷ badCodePoint second ∷ []) e in
-    (limit-kept (length first) (p .0), limit-kept (length second) (p .1))
+    (over-limit-kept 16384 (length first) (p .0), over-limit-kept 16384 (length second) (p .1))
 
 pub two-bytes-short : (first second : List ℕ) → takesTwoBytes first second ≡ passes → (length first ≤ 16384) × (length second ≤ 16384)
 unfolding takesTwoBytes
@@ -162,12 +148,9 @@ pub two-bytes-taken : (first second : List ℕ) → takesBytes first ≡ passes 
 unfolding takesTwoBytes
 two-bytes-taken first second e f = rw (e, f)
 
-module _ {text out out′ : List ℕ} {r : Counted} where
-  -- what a call that is done read
-  pub read-filled : Reads readText text out (Done r) out′ → take (r .length) out′ ≡ readText text
-  read-filled h =
-      let d = fills-done (h .fills) in
-      rw (d .1, d .2) (take-at (readText text) (drop (length (readText text)) out) _ refl)
+-- what a call that is done read
+pub read-filled : {text out out′ : List ℕ} {r : Counted} → Reads readText text out (Done r) out′ → take (r .length) out′ ≡ readText text
+read-filled h = fills-front (h .fills) (ap (λ (c : Counted). c .length) (fills-done (h .fills) .1))
 
 -- whatever the buffers: ranking two texts of bytes answers what ranking the code points that were read of them answers
 pub rank-reads : (s t : List ℕ) {o o′ p p′ : List ℕ} {r r′ : Counted} → Reads readText s o (Done r) o′ → Reads readText t p (Done r′) p′

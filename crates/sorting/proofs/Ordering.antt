@@ -1,5 +1,4 @@
--- The loop that puts all records in their places, and what the call says. In order: an image that is taken has at most 682 records (`taken-count`);
--- what the loop has made (`ordered-begin`, `ordered-size`, `ordered-search`, `ordered-more`, `ordered-end`); the ways in which the call returns
+-- The loop that puts all records in their places, and what the call says. In order: what the loop has made (`ordered-begin`, `ordered-size`, `ordered-search`, `ordered-more`, `ordered-end`); the ways in which the call returns
 -- (`records-taken`, `records-count`, `orders-room`, `orders-done`, `orders-refused`, `orders-bad`); ANY TWO RESULTS ARE EQUAL (`orders-unique`);
 -- A CALL THAT IS DONE LEAVES THE ORDER (`call-order`) AND COUNTS THE RECORDS (`call-count`).
 -- Not here: the order (proofs/Sorted), the place of one record (proofs/Placing). Assumes nothing.
@@ -8,40 +7,23 @@ use mathlib.Core.List.{List, [], _∷_, _++_, append-assoc}
 use Prim.Native.Nat.{ℕ, suc, _+_, _-_, _≤_, _<_}
 use native.Mathlib.Numerals.{add-one}
 use native.Mathlib.Omega.{arith}
-use lib.Dec.{ltb}
 use lib.ListN.{length, take, drop, length-append, length-drop}
 use lib.Seq.{take-at, drop-append-add, drop-drop}
-use borrow.Author.Tests.{ltb-true, ltb-false}
 use Rattle.laws.specs.Writing.{front}
-use Rattle.laws.proofs.Bools.{test}
 use Rattle.answers.specs.Checks.{Check, passes, refuses}
 use Rattle.answers.specs.Verdicts.{Verdict, done, verdict, Fills}
 use Rattle.answers.specs.declared.Refusal.{Refusal}
 use Rattle.answers.specs.declared.Refusal.the-variants.{NoRoom}
-use Rattle.answers.proofs.Checks.{passes-refuses}
-use Rattle.answers.proofs.Verdicts.{done-not-refused, refused-room, filled-whole, fills-unique, fills-done}
-use Rattle.labels.specs.Images.{countOf, overImage, noImage, layoutsFrom, takesImage, badRecord, judgedAs, namedBy, Judges}
+use Rattle.answers.proofs.Verdicts.{done-not-refused, refused-room, filled-whole, fills-unique, fills-done, fills-front}
+use Rattle.labels.specs.Images.{countOf, takesImage, badRecord, judgedAs, namedBy, Judges}
 use Rattle.labels.specs.declared.image.Judged.{Judged}
 use Rattle.labels.specs.declared.image.Judged.the-variants.{Records, Refused, BadRecord}
-use Rattle.labels.proofs.Orders.{order-first}
-use Rattle.labels.proofs.Images.{image-over}
 use Rattle.labels.proofs.Calls.{judged-injective}
 use Rattle.sorting.specs.Sorting.{standing, ordered, orderOf, Orders}
 use Rattle.sorting.specs.Steps.{Searchable, Placed, Inserted}
 use Rattle.sorting.proofs.Standing.{standing-strict}
 use Rattle.sorting.proofs.Sorted.{ordered-next, ordered-none, ordered-length, ordered-sorted, order-length}
 use Rattle.sorting.proofs.Placing.{place-found}
-
--- ---- an image that is taken
-
-pub taken-count : (image : List ℕ) → takesImage image ≡ passes → countOf image ≤ 682
-unfolding takesImage
-taken-count image e =
-    test (ltb 65472 (length image))
-    (λ t.
-    absurd (passes-refuses (sym (order-first (overImage image) (noImage image ∷ layoutsFrom image 0 (countOf image) ∷ []) e)
-    ∙ image-over image (ltb-true 65472 (length image) t))))
-    (λ t. omega (arith, ltb-false 65472 (length image) t))
 
 -- ---- what the loop has made: the first n are in their places, and the rest of the buffer is as it was
 
@@ -142,9 +124,7 @@ orders-unique image out f g =
 
 -- ---- A CALL THAT IS DONE LEAVES THE ORDER
 pub call-order : (image out : List ℕ) {n : ℕ} {out′ : List ℕ} → Orders image out (Records n) out′ → take n out′ ≡ orderOf image
-call-order image out {n} f =
-    let d = fills-done (f .fills) in
-    ap (take n) (d .2) ∙ take-at (orderOf image) _ n (order-length image ∙ sym (d .1))
+call-order image out f = fills-front (f .fills) (fills-done (f .fills) .1 ∙ sym (order-length image))
 
 -- and answers how many records there are
 pub call-count : (image out : List ℕ) {n : ℕ} {out′ : List ℕ} → Orders image out (Records n) out′ → n ≡ countOf image

@@ -1,7 +1,7 @@
 -- All lines together, and what printing says over its contract. In order: a list with one of its numbers left out (`Out`, and what is kept);
 -- a list that has every number below n, and has n numbers, has each once: its lines are as long together as those of the numbers from 0 on
 -- (`counted-size`); HOW LONG THE LINES ARE AT MOST (`printed-most`, `image-printed-most`), and that 682 records need just that many bytes
--- (`printed-full`); what the answer of `order` says (`image-within`, `image-count`, `order-refused`, `order-bad`, and of the numbers that it leaves
+-- (`printed-full`); what the answer of `order` says (`order-refused`, `order-bad`, and of the numbers that it leaves
 -- `numbers-order`, `numbers-most`, `numbers-inside`, `numbers-below`); the returns of printing, one law each (`prints-refused`, `prints-bad`,
 -- `prints-lacking`, `prints-done`); ANY TWO RESULTS ARE EQUAL (`prints-unique`); A BUFFER OF 2,618 BYTES IS NEVER TOO SHORT (`prints-enough`).
 -- Not here: one number's line (proofs/Decimals); that the order is right, and how many it has, which are premises here (proofs/Sorted).
@@ -11,25 +11,22 @@ use mathlib.Core.List.{List, [], _∷_}
 use Prim.Native.Nat.{ℕ, zero, suc, _+_, _-_, _*_, _≤_, _<_}
 use native.Mathlib.Nat.{suc-add}
 use native.Mathlib.Omega.{arith}
-use lib.Dec.{ltb}
 use lib.ListN.{length, take, drop, length-append}
-use lib.Seq.{take-at}
-use borrow.Author.Tests.{ltb-false}
 use Rattle.laws.specs.Lists.{All, each}
 use Rattle.laws.specs.Writing.{front, Fronts}
 use Rattle.laws.proofs.Lists.{each-cons, length-each-most, all-map}
-use Rattle.answers.specs.Checks.{Check, passes, refuses, overLimit}
+use Rattle.answers.specs.Checks.{Check, passes, refuses}
 use Rattle.answers.specs.Verdicts.{done, refused, verdict, fits}
 use Rattle.answers.specs.Answers.{told}
 use Rattle.answers.specs.declared.Refusal.{Refusal}
 use Rattle.answers.specs.declared.Refusal.the-variants.{NoRoom}
 use Rattle.answers.proofs.Checks.{no-room-passes}
-use Rattle.answers.proofs.Verdicts.{refused-before, refused-room, filled-whole, fills-unique, fills-done, done-not-refused}
+use Rattle.answers.proofs.Verdicts.{refused-before, refused-room, filled-whole, fills-unique, fills-done, fills-front, done-not-refused}
 use Rattle.ranking.specs.declared.order.Order.{Order}
-use Rattle.labels.specs.Images.{countOf, overImage, noImage, layoutsFrom, takesImage, judgedAs, namedBy}
+use Rattle.labels.specs.Images.{countOf, takesImage, judgedAs, namedBy}
 use Rattle.labels.specs.declared.image.Judged.{Judged}
 use Rattle.labels.specs.declared.image.Judged.the-variants.{Records, Refused, BadRecord}
-use Rattle.labels.proofs.Orders.{order-first, passes-false}
+use Rattle.labels.proofs.Images.{taken-short, taken-count}
 use Rattle.labels.proofs.Calls.{judged-injective}
 use Rattle.sorting.specs.Sorting.{standing, Member, here, there, InOrder, orderOf, Orders}
 use Rattle.sorting.specs.Printing.{decimalOf, lineOf, printed, Prints}
@@ -157,17 +154,6 @@ image-printed-most image h good sized = printed-most good sized (omega arith)
 
 -- ---- what the answer of `order` says
 
--- an image that is taken has at most 65,472 bytes, and so at most 682 records
-module _ (image : List ℕ) (taken : takesImage image ≡ passes) where
-  pub image-within : length image ≤ 65472
-  unfolding takesImage overImage overLimit
-  image-within =
-      let within = order-first (overImage image) (noImage image ∷ layoutsFrom image 0 (countOf image) ∷ []) taken in
-      ltb-false 65472 (length image) (passes-false (ltb 65472 (length image)) 1 65472 within)
-
-  pub image-count : countOf image ≤ 682
-  image-count = omega (arith, image-within)
-
 -- a call that has room where its checks pass, and is refused, is refused by its checks
 refused-by : (check : Check) (whole out : List ℕ) (value : ℕ) {number place : ℕ} → (check ≡ passes → length whole ≤ length out)
     → refused number place ≡ verdict (fits check whole out) value → check ≡ refuses number place
@@ -177,7 +163,7 @@ refused-by (refuses a b) whole out value room e = cc
 module _ (image : List ℕ) (sized : length (orderOf image) ≡ countOf image) {numbers numbers′ : List ℕ} {r : Judged} (room : 682 ≤ length numbers)
     (o : Orders image numbers r numbers′) where
   order-room : takesImage image ≡ passes → length (orderOf image) ≤ length numbers
-  order-room e = omega (arith, image-count image e)
+  order-room e = omega (arith, taken-count image e)
 
   order-refused : {s : Refusal} → r ≡ Refused s → takesImage image ≡ refuses (told s .number) (told s .place)
   order-refused e = refused-by (takesImage image) (orderOf image) numbers (countOf image) order-room (sym (ap judgedAs e) ∙ o .fills .answers)
@@ -191,11 +177,10 @@ module _ (image : List ℕ) (sized : length (orderOf image) ≡ countOf image) {
 
     -- the first n numbers are the order
     pub numbers-order : take n numbers′ ≡ orderOf image
-    numbers-order =
-        ap (take n) (order-done .2) ∙ take-at (orderOf image) (drop (length (orderOf image)) numbers) n (sized ∙ sym (order-done .1))
+    numbers-order = fills-front (rw e at (o .fills)) (order-done .1 ∙ sym sized)
 
     pub numbers-most : n ≤ 682
-    numbers-most = omega (arith, image-count image (order-done .0), order-done .1)
+    numbers-most = omega (arith, taken-count image (order-done .0), order-done .1)
 
     pub numbers-inside : n ≤ length numbers′
     numbers-inside =
@@ -206,7 +191,7 @@ module _ (image : List ℕ) (sized : length (orderOf image) ≡ countOf image) {
         )
 
     pub numbers-below : All (λ k. k < countOf image) (orderOf image) → All (λ k. k < 1000) (take n numbers′)
-    numbers-below inside = rw numbers-order (all-map (λ k h. omega (arith, image-count image (order-done .0))) inside)
+    numbers-below inside = rw numbers-order (all-map (λ k h. omega (arith, taken-count image (order-done .0))) inside)
 
   -- ---- the returns of printing
 
@@ -253,6 +238,6 @@ pub prints-enough : (image out : List ℕ) → InOrder (standing image) (countOf
     → takesImage image ≡ passes → 2618 ≤ length out → {r : Judged} {out′ : List ℕ} → Prints image out r out′
     → (r ≡ Records (length (printed image))) × (out′ ≡ front (printed image) out)
 prints-enough image out good sized taken room p =
-    let most = image-printed-most image (image-within image taken) good sized in
+    let most = image-printed-most image (taken-short image taken) good sized in
     let h = fills-unique (p .fills) (filled-whole taken (omega (arith, most, room)) refl) in
     (judged-done _ (h .0), h .1)

