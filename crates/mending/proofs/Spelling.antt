@@ -1,7 +1,7 @@
 -- A syllable that stands as single letters, by its bytes. In order: the bytes of a letter of the block 1100–11FF at an index, and back (`Letter`,
 -- `letter-bytes`, `bytes-letter`); a letter by its tail (`tail-short`, `tail-other`, `tail-three`); F of a final (`final-low`,
 -- `final-high`, `final-none`); a character that takes in what is read behind it (`first-grown`, `grown-takes`, `grown-stays`); and a syllable of two
--- letters and of three (`spelled-none`, `initial-inside`, `peak-inside`, `spelled-two`, `spelled-three`).
+-- letters and of three (`spelled-none`, `initial-inside`, `spelled-two`, `spelled-three`).
 -- Not here: which letters join (crate joining, proofs/Pairs). Assumes nothing.
 use mathlib.Core.Path.{_≡_, refl, sym, _∙_, ap}
 use mathlib.Core.Bool.{Bool, true, false, cond}
@@ -214,9 +214,6 @@ module _ (text : List ℕ) (at : ℕ) {a : ℕ} (first : Tail text at a) (a-leas
         let q : (0x1161 + (b - 0x85A1)) / 64 ≡ 0x45 = omega arith in
         let m : (0x1161 + (b - 0x85A1)) % 64 ≡ 0x21 + (b - 0x85A1) = omega arith in
         sym (second .is (0x1161 + (b - 0x85A1)) (omega arith) (omega arith) (rw (q, m) (omega arith)))
-
-    pub peak-inside : at + 6 ≤ length text
-    peak-inside = omega (arith, letter-taken-inside _ (omega arith) (omega arith) text (at + 3) peak-taken)
 
     pair-is : pair (0x1100 + (a - 0x8480)) (0x1161 + (b - 0x85A1)) ≡ 0xAC00 + (a - 0x8480) * 588 + (b - 0x85A1) * 28
     pair-is = two-letters (a - 0x8480) (b - 0x85A1) (omega arith) (omega arith)

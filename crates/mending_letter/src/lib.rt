@@ -3,7 +3,7 @@
 use utf8::read::Taken;
 ghost use mathlib.Core.Path.{_≡_};
 ghost use Prim.Native.Nat.{_≤_};
-ghost use lib.ListN.{length, drop};
+ghost use lib.ListN.{drop};
 ghost use Rattle.laws.specs.Ranges.{within};
 ghost use Rattle.laws.specs.Pieces.{pieces};
 ghost use Rattle.utf8.specs.Table37.{kindOf};
@@ -13,7 +13,6 @@ ghost use Rattle.mending.specs.Steps.{OfTail, Triple};
 
 // Does a modern peak stand at an index?
 fn is_peak_at(text: &[u8], at: usize) -> bool
-    requires { ⌜ at ≤ length (now text) ⌝ }
     ensures { λ r. ⌜ r ≡ within 0x1161 0x1175 (takenFrom (pieces kindOf (drop at (now (text .entry)))) .code) ⌝ }
 {
     let tail = mending_tail::tail_at(text, at);

@@ -2,8 +2,7 @@
 // mending_character does not decide, and it takes what is left. Not here: letters that stand alone (crate mending_letter).
 use utf8::read::Taken;
 ghost use mathlib.Core.Path.{_≡_};
-ghost use Prim.Native.Nat.{_≤_};
-ghost use lib.ListN.{length, drop};
+ghost use lib.ListN.{drop};
 ghost use Rattle.laws.specs.Pieces.{pieces};
 ghost use Rattle.utf8.specs.Table37.{kindOf};
 ghost use Rattle.utf8.specs.Reading.{takenFrom};
@@ -13,7 +12,6 @@ ghost use Rattle.mending.specs.Steps.{lastOf, Triple};
 // F of the final at an index, else 0: 11A8 to 11BF are E1 86 A8 to E1 86 BF, and 11C0 to 11C2 are
 // E1 87 80 to E1 87 82.
 fn final_at(text: &[u8], at: usize) -> u32
-    requires { ⌜ at ≤ length (now text) ⌝ }
     ensures { λ r. ⌜ r ≡ lastOf (takenFrom (pieces kindOf (drop at (now (text .entry)))) .code) ⌝ }
 {
     let tail = mending_tail::tail_at(text, at);
@@ -25,8 +23,7 @@ fn final_at(text: &[u8], at: usize) -> u32
 }
 
 // The syllable of an initial, a peak and perhaps a final at an index; of size 0 where there is none.
-fn letters_at(text: &[u8], at: usize) -> Taken
-    requires { ⌜ at ≤ length (now text) ⌝ }
+pub fn spelled_at(text: &[u8], at: usize) -> Taken
     ensures { λ r. ⌜ ((r .size ≡ 0 → ⊥) → r ≡ characterFrom (pieces kindOf (drop at (now (text .entry))))) ⌝ }
     ensures { λ r. ⌜ ((r .size ≡ 0 → ⊥) → Triple (r .code)) ⌝ }
 {
@@ -58,15 +55,4 @@ fn letters_at(text: &[u8], at: usize) -> Taken
         size: 9,
         ill: 0,
     }
-}
-
-// The same at every index.
-pub fn spelled_at(text: &[u8], at: usize) -> Taken
-    ensures { λ r. ⌜ ((r .size ≡ 0 → ⊥) → r ≡ characterFrom (pieces kindOf (drop at (now (text .entry))))) ⌝ }
-    ensures { λ r. ⌜ ((r .size ≡ 0 → ⊥) → Triple (r .code)) ⌝ }
-{
-    if text.len() <= at {
-        return mending_tail::none();
-    }
-    letters_at(text, at)
 }

@@ -1,7 +1,7 @@
 -- `mending_letter::letter_at` meets its contract: nothing found, or a letter that is no modern initial or has no modern peak behind it.
 -- Assumes nothing.
 use Rattle.mending.proofs.Lone.{letter-triple, letter-character}
-use Rattle.mending.proofs.Spelling.{spelled-none, initial-inside}
+use Rattle.mending.proofs.Spelling.{spelled-none}
 use native.Mathlib.Omega.{arith}
 use mathlib.Core.Logic.{⊎-elim}
 use mathlib.Core.Path.{sym, _∙_}
@@ -34,7 +34,7 @@ add-is-peak-at : tie.Need-add-is-peak-at
 add-is-peak-at c = search needs
 
 is-peak-at-requires : tie.Need-is-peak-at-requires
-is-peak-at-requires c κs = initial-inside _ _ (c .before .before .before .tail-at .ensures) (omega (arith, c .before .before .if2 .left)) (omega (arith, c .if4 .taken))
+is-peak-at-requires c κs = search needs
 
 none-requires-4 : tie.Need-none-requires-4
 none-requires-4 c κs = search needs
