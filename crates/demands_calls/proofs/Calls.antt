@@ -2,7 +2,7 @@
 -- Not here: the laws over any checks (crate demands, proofs/Demand1).
 --
 -- Before the rows: a check and an image left by it in the words of the other crates (`as-verdict`, `changed-kept`); answers for C, where 0 says that
--- the call is done, and no refusal has that number (`Numbered`, `ForC`). Assumes nothing.
+-- the call is done, and no refusal has that number, and a refusal counts nothing (`Numbered`, `Tells`, `for-c`). Assumes nothing.
 use mathlib.Core.Path.{_≡_, refl, _∙_, ap}
 use mathlib.Core.Bool.{Bool, true, false, cond}
 use mathlib.Core.Option.{Option, none, some}
@@ -81,38 +81,49 @@ name-numbered none = tt
 name-numbered (some s) = tt
 
 -- how a verdict is told to C, and what two numbers stand for its value
-record ForC {Value : Type 0} (tells : Verdict Value → Answer) (value : Value → ℕ × ℕ) : Type 0 where
+record Tells {Value : Type 0} (tells : Verdict Value → Answer) (value : Value → ℕ × ℕ) : Type 0 where
   is-done : (v : Value) → rows.asC (tells (done v)) ≡ done (value v)
+  done-zero : (v : Value) → tells (done v) .refusal ≡ 0
   is-refused : (number place : ℕ) → tells (refused number place) ≡ record { refusal = number; count = 0; value = place }
 
-counted-for-c : ForC countedAnswer (λ c. (c .length, c .ills))
-counted-for-c = record { is-done = λ v. refl; is-refused = λ number place. refl }
+counted-for-c : Tells countedAnswer (λ c. (c .length, c .ills))
+counted-for-c = record { is-done = λ v. refl; done-zero = λ v. refl; is-refused = λ number place. refl }
 
-plain-for-c : ForC plainAnswer (λ v. (v, 0))
-plain-for-c = record { is-done = λ v. refl; is-refused = λ number place. refl }
+plain-for-c : Tells plainAnswer (λ v. (v, 0))
+plain-for-c = record { is-done = λ v. refl; done-zero = λ v. refl; is-refused = λ number place. refl }
 
-order-for-c : ForC orderAnswer (λ o. (orderNumber o, 0))
-order-for-c = record { is-done = λ v. refl; is-refused = λ number place. refl }
+order-for-c : Tells orderAnswer (λ o. (orderNumber o, 0))
+order-for-c = record { is-done = λ v. refl; done-zero = λ v. refl; is-refused = λ number place. refl }
 
-module _ {Value : Type 0} {tells : Verdict Value → Answer} {value : Value → ℕ × ℕ} (c : ForC tells value) where
+module _ {Value : Type 0} {tells : Verdict Value → Answer} {value : Value → ℕ × ℕ} (c : Tells tells value) where
   as-c : (check : Check) → Numbered check → (v : Value) → rows.asC (tells (verdict check v)) ≡ verdict check (value v)
   as-c passes h v = c .is-done v
   as-c (refuses zero place) h v = absurd h
   as-c (refuses (suc n) place) h v = ap rows.asC (c .is-refused (suc n) place)
 
+  no-count : (check : Check) (v : Value) → (tells (verdict check v) .refusal ≡ 0 → ⊥) → tells (verdict check v) .count ≡ 0
+  no-count passes v h = absurd (h (c .done-zero v))
+  no-count (refuses number place) v h = ap (λ (a : Answer). a .count) (c .is-refused number place)
+
+  for-c : (check : Check) (v : Value) {r : Answer} → r ≡ tells (verdict check v) → {demand : Type 0} → demand → rows.ForC r demand
+  for-c check v e d = record { keeps = d; uncounted = rw e (no-count check v) }
+
   module _ {v : Value} {r : Answer} where
     answered-for-c : (a b : Check) → Numbered a → Numbered b → r ≡ tells (verdict (inOrder (a ∷ b ∷ [])) v)
-        → Demand1 {A = ℕ} (a ∷ b ∷ []) (value v) [] [] (rows.asC r) []
-    answered-for-c a b h k e = answered (a ∷ b ∷ []) refl (ap rows.asC e ∙ as-c (inOrder (a ∷ b ∷ [])) (numbered-both a b h k) v)
+        → rows.ForC r (Demand1 {A = ℕ} (a ∷ b ∷ []) (value v) [] [] (rows.asC r) [])
+    answered-for-c a b h k e =
+        for-c (inOrder (a ∷ b ∷ [])) v e
+        (answered (a ∷ b ∷ []) refl (ap rows.asC e ∙ as-c (inOrder (a ∷ b ∷ [])) (numbered-both a b h k) v))
 
     filled-for-c : (before : Check) (whole out : List ℕ) {out′ : List ℕ} → Numbered before → r ≡ tells (verdict (fits before whole out) v)
         → out′ ≡ after (fits before whole out) whole out
-        → Demand1 (before ∷ noRoom (length out) (length whole) ∷ []) (value v) out (front whole out) (rows.asC r) out′
+        → rows.ForC r (Demand1 (before ∷ noRoom (length out) (length whole) ∷ []) (value v) out (front whole out) (rows.asC r) out′)
     filled-for-c before whole out h e q =
         let room : Check = noRoom (length out) (length whole) in
-        demanded (before ∷ room ∷ [])
+        for-c (fits before whole out) v e
+        (demanded (before ∷ room ∷ [])
         (ap rows.asC e ∙ as-c (fits before whole out) (numbered-both before room h (room-numbered (length out) (length whole))) v)
-        (q ∙ after-kept (fits before whole out) whole out)
+        (q ∙ after-kept (fits before whole out) whole out))
 
 -- ---- answers
 

@@ -76,6 +76,11 @@ told-c (suc n) a = refused (a .refusal) (a .value)
 abbrev pub asC : Answer → Verdict (ℕ × ℕ)
 asC a = told-c (a .refusal) a
 
+-- what is shown of a call for C: the demand, of its answer read so, and that a refusal's count is 0
+pub record ForC (r : Answer) (demand : Type 0) : Type 0 where
+  pub keeps : demand
+  pub uncounted : (r .refusal ≡ 0 → ⊥) → r .count ≡ 0
+
 -- ---- answers
 
 -- `answers_told::tell`
@@ -336,23 +341,25 @@ Print = (image out out′ : List ℕ) (r : Judged) → Prints image out r out′
 abbrev pub MendForC : Type 0
 MendForC =
     (text out out′ : List ℕ) (r : Answer) → Mends text out r out′
-    → Demand1 (overLimit 16384 (length text) ∷ noRoom (length out) (length (mended text)) ∷ []) (length (mended text), illText text)
-    out (front (mended text) out) (asC r) out′
+    → ForC r (Demand1 (overLimit 16384 (length text) ∷ noRoom (length out) (length (mended text)) ∷ []) (length (mended text), illText text)
+    out (front (mended text) out) (asC r) out′)
 
 -- `pulphopper::pulphopper_name`: 4, 3
 abbrev pub NameForC : Type 0
 NameForC =
     (code : ℕ) (out out′ : List ℕ) (r : Answer) → NamesForC code out r out′
-    → Demand1 (noSyllable code ∷ noRoom (length out) (length (nameOf code)) ∷ []) (length (nameOf code), 0) out (front (nameOf code) out) (asC r) out′
+    → ForC r (Demand1 (noSyllable code ∷ noRoom (length out) (length (nameOf code)) ∷ []) (length (nameOf code), 0)
+    out (front (nameOf code) out) (asC r) out′)
 
 -- `pulphopper::pulphopper_read_name`: 1, 5
 abbrev pub ReadNameForC : Type 0
 ReadNameForC =
     (name : List ℕ) (r : Answer) → ReadsNameForC name r
-    → Demand1 {A = ℕ} (overLimit 16384 (length name) ∷ noName (named name) ∷ []) (syllableOr (named name), 0) [] [] (asC r) []
+    → ForC r (Demand1 {A = ℕ} (overLimit 16384 (length name) ∷ noName (named name) ∷ []) (syllableOr (named name), 0) [] [] (asC r) [])
 
 -- `pulphopper::pulphopper_rank`: 1 for the first label, 1 for the second
 abbrev pub RankForC : Type 0
 RankForC =
     (first second : List ℕ) (r : Answer) → RanksForC first second r
-    → Demand1 {A = ℕ} (overLimit 16384 (length first) ∷ overLimit 16384 (length second) ∷ []) (orderNumber (rankBytes first second), 0) [] [] (asC r) []
+    → ForC r (Demand1 {A = ℕ} (overLimit 16384 (length first) ∷ overLimit 16384 (length second) ∷ []) (orderNumber (rankBytes first second), 0)
+    [] [] (asC r) [])

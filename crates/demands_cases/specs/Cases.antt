@@ -1,18 +1,27 @@
--- Document 01, 'Marked for proof, and easy to get wrong': the twelve cases, as one table with a single claim over all its rows (`Cases`). A row says what one
--- call gives, with room enough, of one input: the code points or bytes, or the refusal. Nothing is proved here. Not here: what the calls give (the crates
--- below). Assumes nothing.
+-- Document 01, 'Marked for proof, and easy to get wrong': the twelve cases, as one table with a single claim over all its rows (`Cases`). A row has a call,
+-- its input, and what the call gives: code points or bytes, or the refusal. The claim is over the public calls: every result that a call's contract admits of
+-- the input, whatever buffer it is lent, if only that has 64 elements or more, is the row's. Nothing is proved here.
+-- Not here: the contracts, and what the calls make (the crates below). Assumes nothing.
 use mathlib.Core.Path.{_≡_}
 use mathlib.Core.List.{List, [], _∷_}
-use Prim.Native.Nat.{ℕ}
+use Prim.Native.Nat.{ℕ, _≤_}
+use lib.ListN.{length, take}
 use Rattle.laws.specs.Lists.{All}
 use Rattle.laws.specs.Strings.{ascii}
-use Rattle.answers.specs.Checks.{inOrder, badCodePoint, takesText, takesBytes}
+use Rattle.answers.specs.Checks.{badCodePoint}
 use Rattle.answers.specs.Verdicts.{Verdict, done, refused, verdict}
+use Rattle.answers.specs.Answers.{filled, Makes}
+use Rattle.answers.specs.declared.Filled.{Filled}
 use Rattle.letters.specs.Syllables.{oneStep, fullParts}
+use Rattle.letters.specs.Answers.{stepped}
+use Rattle.letters.specs.declared.step.Stepped.{Stepped}
 use Rattle.joining.specs.Joining.{join}
 use Rattle.utf8.specs.Utf8.{readText}
-use Rattle.names.specs.Names.{nameOf, named}
-use Rattle.names.specs.Naming.{noSyllable, noName, syllableOr}
+use Rattle.utf8.specs.Reading.{readAs, Reads}
+use Rattle.utf8.specs.declared.read.Counted.{Counted}
+use Rattle.utf8.specs.declared.read.Read.{Read}
+use Rattle.names.specs.Naming.{namedAs, Names, ReadsName}
+use Rattle.names.specs.declared.named.Named.{Named}
 use Rattle.clusters.specs.Simple.{simple}
 use Rattle.clusters.specs.Gathering.{gathered}
 use Rattle.fillers.specs.Groups.{turned}
@@ -29,17 +38,31 @@ pub data Call : Type 0 where
   names : ℕ → Call
   reads-name : List ℕ → Call
 
--- what each gives
-abbrev pub given : Call → Verdict (List ℕ)
-given (one-step code) = verdict (badCodePoint (code ∷ [])) (oneStep code)
-given (parts text) = verdict (takesText text) (fullParts text)
-given (simply text) = verdict (takesText text) (simple text)
-given (joins text) = verdict (takesText text) (join text)
-given (gathers text) = verdict (takesText text) (gathered text)
-given (turns text) = verdict (takesText text) (turned text)
-given (reads bytes) = verdict (takesBytes bytes) (readText bytes)
-given (names code) = verdict (noSyllable code) (nameOf code)
-given (reads-name name) = verdict (inOrder (takesBytes name ∷ noName (named name) ∷ [])) (syllableOr (named name) ∷ [])
+-- what a call gave that fills a buffer: the front of the buffer, as long as the answer says; or its refusal
+abbrev pub given : {Value : Type 0} → (Value → ℕ) → Verdict Value → List ℕ → Verdict (List ℕ)
+given size (done value) out = done (take (size value) out)
+given size (refused number place) out = refused number place
+
+-- and one that answers a number: the number alone
+abbrev pub alone : Verdict ℕ → Verdict (List ℕ)
+alone (done value) = done (value ∷ [])
+alone (refused number place) = refused number place
+
+-- A CALL GIVES THIS: so does every result that its contract admits, with a buffer of at least 64 elements. First of the calls from text to text
+abbrev pub OfText : (List ℕ → List ℕ) → List ℕ → Verdict (List ℕ) → Type 0
+OfText make text v = (out out′ : List ℕ) (r : Filled) → 64 ≤ length out → Makes make text out r out′ → given (λ n. n) (filled r) out′ ≡ v
+
+abbrev pub Gives : Call → Verdict (List ℕ) → Type 0
+Gives (one-step code) v = (r : Stepped) → stepped r ≡ verdict (badCodePoint (code ∷ [])) (oneStep code) → stepped r ≡ v
+Gives (parts text) v = OfText fullParts text v
+Gives (simply text) v = OfText simple text v
+Gives (joins text) v = OfText join text v
+Gives (gathers text) v = OfText gathered text v
+Gives (turns text) v = OfText turned text v
+Gives (reads bytes) v =
+    (out out′ : List ℕ) (r : Read) → 64 ≤ length out → Reads readText bytes out r out′ → given (λ (c : Counted). c .length) (readAs r) out′ ≡ v
+Gives (names code) v = (out out′ : List ℕ) (r : Filled) → 64 ≤ length out → Names code out r out′ → given (λ n. n) (filled r) out′ ≡ v
+Gives (reads-name name) v = (r : Named) → ReadsName name r → alone (namedAs r) ≡ v
 
 pub record Row : Type 0 where
   pub number : ℕ
@@ -73,4 +96,4 @@ table =
 
 -- THE CLAIM: every row of the table holds
 abbrev pub Cases : Type 0
-Cases = All (λ r. given (r .call) ≡ r .gives) table
+Cases = All (λ r. Gives (r .call) (r .gives)) table
