@@ -132,7 +132,7 @@ gathered-again x = same-gathered (gathered x) x (simple-gathered x)
 
 module _ (c : ℕ) (n : placeOf c ≡ nowhere) (y : List ℕ) where
   -- one letter before it stays alone
-  cut-one : (a : ℕ) (z : List ℕ) → clustered (a ∷ c ∷ z) ≡ a ∷ clustered (c ∷ z)
+  pub cut-one : (a : ℕ) (z : List ℕ) → clustered (a ∷ c ∷ z) ≡ a ∷ clustered (c ∷ z)
   unfolding clustered
   cut-one a [] = rw (two-nowhere a c n)
   cut-one a (d ∷ z) = rw (second-nowhere a c d n, two-nowhere a c n)

@@ -1,6 +1,7 @@
 -- The table of 768 numbers, and its rows by value. In order: one test over all 256 rows, which antt computes, and what it says of a table (`rows-right`);
 -- a row as the code reads it, inside the table and where a code is alone (`row-read`, `row-short`, `row-below`, `row-above`); the letters of a row by value
--- (`by-one`, `by-two`, `by-three`); a row of the table by value (`row-of`), whose letters are those of every number (`letters-by`).
+-- (`by-one`, `by-two`, `by-three`); no two rows are equal (`rows-differ`); a row of the table by value (`row-of`), whose letters are those of every number
+-- (`letters-by`).
 -- Not here: the table, which stands in the code (crate clusters_table), and its rule (proofs/Rule). Assumes nothing.
 use mathlib.Core.Path.{_≡_, refl, sym, _∙_, ap}
 use mathlib.Core.Bool.{Bool, true, false, _&&_}
@@ -23,7 +24,7 @@ use Rattle.laws.proofs.Filling.{room-all}
 use Rattle.clusters.specs.Table.{lettersOf, rowOf}
 use Rattle.clusters.specs.Rows.{Rows, rowIn, rowAt, lettersBy}
 use Rattle.clusters.specs.declared.table.Row.{Row}
-use Rattle.clusters.proofs.Rule.{letters-least, letters-most, letters-outside, letters-nonzero}
+use Rattle.clusters.proofs.Rule.{table-rule, letters-least, letters-most, letters-outside, letters-nonzero}
 
 -- ---- one test over all rows of a table, and what it says
 
@@ -110,6 +111,14 @@ row-back (also {a = a} p (also {a = b} q none)) h k = simp (ne-eqb b 0 q)
 row-back (also {a = a} p (also {a = b} q (also {a = c} r none))) h k = simp (ne-eqb b 0 q, ne-eqb c 0 r)
 row-back (also p (also q (also r (also s t)))) h k = absurd (omega arith)
 
+-- and so the letters of a code are read back from 01's row: NO TWO ROWS ARE EQUAL, as rows of three numbers
+row-letters : (c : ℕ) → (c ≡ 0 → ⊥) → lettersBy (rowIn (rowOf c)) ≡ lettersOf c
+row-letters c n = row-back (letters-nonzero c n) (letters-least c) (letters-most c)
+
+pub rows-differ : (c d : ℕ) → (c ≡ 0 → ⊥) → (d ≡ 0 → ⊥) → rowOf c ≡ rowOf d → c ≡ d
+rows-differ c d n m e =
+    table-rule .distinct c d (sym (row-letters c n) ∙ ap (λ (row : List ℕ). lettersBy (rowIn row)) e ∙ row-letters d m)
+
 -- a row of the table by value is 01's row
 pub row-of : {table : List ℕ} → Rows table → (c : ℕ) → 0x1100 ≤ c → c ≤ 0x11FF → rowAt table c ≡ rowIn (rowOf c)
 row-of {table} rows c l h =
@@ -125,4 +134,4 @@ letters-by {table} rows c = test (within 0x1100 0x11FF c) listed (λ e. rw (← 
     listed : within 0x1100 0x11FF c ≡ true → lettersBy (rowAt table c) ≡ lettersOf c
     listed e =
         let l = within-least 0x1100 0x11FF c e in
-        ap lettersBy (row-of rows c l (within-most 0x1100 0x11FF c e)) ∙ row-back (letters-nonzero c (λ z. omega arith)) (letters-least c) (letters-most c)
+        ap lettersBy (row-of rows c l (within-most 0x1100 0x11FF c e)) ∙ row-letters c (λ z. omega arith)

@@ -17,7 +17,9 @@ use Rattle.joining.proofs.Calls.{parts-call}
 use Rattle.normal.proofs.Conjoining.{nfc-join}
 use Rattle.normal.proofs.Repertoire.{joined-is-nfc}
 use Rattle.utf8.specs.Table37.{kindOf}
+use Rattle.utf8.specs.Utf8.{readText}
 use Rattle.utf8.proofs.Reading.{reading8, reading8-unique}
+use Rattle.mending.specs.Mending.{mended}
 use Rattle.names.specs.Names.{nameOf}
 use Rattle.names.proofs.Lengths.{syllable-name-most}
 use Rattle.names.proofs.NR1.{name-nr1}
@@ -54,6 +56,12 @@ reading-utf8 text out out′ c h =
       codes-are = λ P r. fills-front (h .fills) (ap (λ c. c .length) (d .1)) ∙ rw (reading8-unique r);
       ills-are = λ P r. ap (λ c. c .ills) (d .1) ∙ rw (reading8-unique r);
     }
+
+pub mending : demand.Mending
+unfolding mended
+mending text out out′ c h P r =
+    let d = fills-done (h .fills) in
+    (fills-front (h .fills) (ap (λ c. c .length) (d .1)) ∙ rw (reading8-unique r, nfc-join (readText text)), ap (λ c. c .ills) (d .1) ∙ rw (reading8-unique r))
 
 pub naming : demand.Naming
 naming code out out′ n h =

@@ -1,6 +1,7 @@
 -- Demand 1, as one statement over any call: "Each call accepts every input there can be, checks it itself and ends. A refusal gives its number and place
 -- from the list and changes nothing that was lent." That every input is accepted and the call ends is what the check proves of a function with no
--- `requires`; the rest is `Demand1`. Not here: the calls (crate demands_calls), the checks (crate answers, specs/Checks, and the crates that make 4 to 7).
+-- `requires`; the rest is `Demand1`. (That a pointer of C's is good for its length, and that what is written overlaps nothing, no callee can check: docs/C.md.)
+-- Not here: the calls (crate demands_calls), the checks (crate answers, specs/Checks, and the crates that make 4 to 7).
 -- Assumes nothing.
 use mathlib.Core.Path.{_≡_}
 use mathlib.Core.Logic.{_↔_}

@@ -27,10 +27,11 @@ use Rattle.normal.specs.Forms.{Database, nfc}
 use Rattle.normal.specs.Jamo.{jamo}
 use Rattle.normal.specs.Repertoire.{Repertoire, Ucd}
 use Rattle.utf8.specs.Table37.{kindOf}
-use Rattle.utf8.specs.Utf8.{utf8, readText}
+use Rattle.utf8.specs.Utf8.{utf8, readText, writeText}
 use Rattle.utf8.specs.Reading.{Reads}
 use Rattle.utf8.specs.declared.read.Counted.{Counted}
 use Rattle.utf8.specs.declared.read.Read.the-variants.{Done as ReadDone}
+use Rattle.mending.specs.Mending.{mended}
 use Rattle.names.specs.Names.{ruleNR1}
 use Rattle.names.specs.Naming.{Names, ReadsName}
 use Rattle.names.specs.declared.named.Named.{Named}
@@ -44,8 +45,8 @@ OneStepIs = (code : ℕ) (parts : Parts) → stepped (Into parts) ≡ verdict (b
 abbrev pub TakingApart : Type 0
 TakingApart = (text out out′ : List ℕ) (n : ℕ) → Makes fullParts text out (Done n) out′ → take n out′ ≡ each decomposition text
 
--- "joining letters": the canonical composition of sections 3.11 and 3.12. Of every text, over the database that has the syllables alone; and on document
--- 01's repertoire over every database that says of it what the Unicode Character Database says
+-- "joining letters": the canonical composition of sections 3.11 and 3.12. Of every text, over the database that has the syllables and the tone marks' class alone;
+-- and on document 01's repertoire over every database that says of it what the Unicode Character Database says
 abbrev pub Joining : Type 0
 Joining = (text out out′ : List ℕ) (n : ℕ) → Makes join text out (Done n) out′ → take n out′ ≡ nfc jamo text
 
@@ -63,6 +64,13 @@ pub record ReadsAsDefined (text written : List ℕ) (ills : ℕ) : Type 0 where
 
 abbrev pub ReadingUtf8 : Type 0
 ReadingUtf8 = (text out out′ : List ℕ) (c : Counted) → Reads readText text out (ReadDone c) out′ → ReadsAsDefined text (take (c .length) out′) (c .ills)
+
+-- mending is reading, joining and writing: of whatever reading the text has, what was written is the UTF-8 of what its code points compose to, and the count is
+-- that of its ill-formed maximal subparts
+abbrev pub Mending : Type 0
+Mending =
+    (text out out′ : List ℕ) (c : Counted) → Reads mended text out (ReadDone c) out′ → (P : List (Piece ℕ)) → Reading kindOf text P
+    → (take (c .length) out′ ≡ writeText (nfc jamo (codes utf8 P))) × (c .ills ≡ illCount P)
 
 -- "and naming": rule NR1 of section 4.8
 abbrev pub Naming : Type 0

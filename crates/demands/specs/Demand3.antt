@@ -4,7 +4,8 @@
 -- place gives. In the beginning, take the last well-formed character lying whole in it that is of neither kind. If there is one, both joined texts start
 -- with what joining all that stands before it gives. No syllable is made from letters with ill-formed bytes between them: around each ill-formed subpart the
 -- joined text is what joining all before it gives, then one FFFD, then what joining all behind it gives."
--- Statements over calls of mending that are done, which a call within the limit and with room is (`IsDone`); nothing is proved here. Not here: the places as
+-- Statements over calls of mending that are done, whatever room they were given: a call within the limit and with three bytes for each is (`IsDone`), and so is one
+-- with just the room that it needs (demand 1's row for it, crate demands_calls). Nothing is proved here. Not here: the places as
 -- they are computed (crate laws, specs/Damage) and what has to be true of them (crate laws, specs/Places). Assumes nothing.
 use mathlib.Core.Path.{_≡_}
 use mathlib.Core.List.{List, [], _∷_, _++_}
@@ -22,7 +23,7 @@ use Rattle.utf8.specs.declared.read.Read.the-variants.{Done}
 use Rattle.mending.specs.Mending.{mended, joinedBytes, SameAround}
 use Rattle.demands.specs.Accident.{Mended}
 
--- "within the limit, each given room": such a call is done. Three bytes for each byte always are room enough
+-- "within the limit, each given room": such a call is done. Three bytes for each byte are always room enough
 abbrev pub IsDone : Type 0
 IsDone =
     (bytes out out′ : List ℕ) (r : Read) → length bytes ≤ 16384 → 3 * length bytes ≤ length out → Reads mended bytes out r out′

@@ -48,12 +48,12 @@ changed-kept (refuses number place) image image′ = refl
 -- ---- answers for C
 
 -- a refusal's number is not 0
-abbrev Numbered : Check → Type 0
+abbrev pub Numbered : Check → Type 0
 Numbered passes = Unit {0}
 Numbered (refuses zero place) = ⊥
 Numbered (refuses (suc n) place) = Unit {0}
 
-numbered-both : (a b : Check) → Numbered a → Numbered b → Numbered (inOrder (a ∷ b ∷ []))
+pub numbered-both : (a b : Check) → Numbered a → Numbered b → Numbered (inOrder (a ∷ b ∷ []))
 numbered-both passes passes h k = tt
 numbered-both passes (refuses zero place) h k = k
 numbered-both passes (refuses (suc n) place) h k = tt
@@ -64,35 +64,35 @@ numbered-either : (b : Bool) (x y : Check) → Numbered x → Numbered y → Num
 numbered-either true x y h k = h
 numbered-either false x y h k = k
 
-limit-numbered : (limit size : ℕ) → Numbered (overLimit limit size)
+pub limit-numbered : (limit size : ℕ) → Numbered (overLimit limit size)
 unfolding overLimit
 limit-numbered limit size = numbered-either (ltb limit size) (refuses 1 limit) passes tt tt
 
-room-numbered : (room needed : ℕ) → Numbered (noRoom room needed)
+pub room-numbered : (room needed : ℕ) → Numbered (noRoom room needed)
 unfolding noRoom
 room-numbered room needed = numbered-either (ltb room needed) (refuses 3 needed) passes tt tt
 
-syllable-numbered : (code : ℕ) → Numbered (noSyllable code)
+pub syllable-numbered : (code : ℕ) → Numbered (noSyllable code)
 unfolding noSyllable
 syllable-numbered code = numbered-either (isSyllable code) passes (refuses 4 0) tt tt
 
-name-numbered : (o : Option ℕ) → Numbered (noName o)
+pub name-numbered : (o : Option ℕ) → Numbered (noName o)
 name-numbered none = tt
 name-numbered (some s) = tt
 
 -- how a verdict is told to C, and what two numbers stand for its value
-record Tells {Value : Type 0} (tells : Verdict Value → Answer) (value : Value → ℕ × ℕ) : Type 0 where
-  is-done : (v : Value) → rows.asC (tells (done v)) ≡ done (value v)
-  done-zero : (v : Value) → tells (done v) .refusal ≡ 0
-  is-refused : (number place : ℕ) → tells (refused number place) ≡ record { refusal = number; count = 0; value = place }
+pub record Tells {Value : Type 0} (tells : Verdict Value → Answer) (value : Value → ℕ × ℕ) : Type 0 where
+  pub is-done : (v : Value) → rows.asC (tells (done v)) ≡ done (value v)
+  pub done-zero : (v : Value) → tells (done v) .refusal ≡ 0
+  pub is-refused : (number place : ℕ) → tells (refused number place) ≡ record { refusal = number; count = 0; value = place }
 
-counted-for-c : Tells countedAnswer (λ c. (c .length, c .ills))
+pub counted-for-c : Tells countedAnswer (λ c. (c .length, c .ills))
 counted-for-c = record { is-done = λ v. refl; done-zero = λ v. refl; is-refused = λ number place. refl }
 
-plain-for-c : Tells plainAnswer (λ v. (v, 0))
+pub plain-for-c : Tells plainAnswer (λ v. (v, 0))
 plain-for-c = record { is-done = λ v. refl; done-zero = λ v. refl; is-refused = λ number place. refl }
 
-order-for-c : Tells orderAnswer (λ o. (orderNumber o, 0))
+pub order-for-c : Tells orderAnswer (λ o. (orderNumber o, 0))
 order-for-c = record { is-done = λ v. refl; done-zero = λ v. refl; is-refused = λ number place. refl }
 
 module _ {Value : Type 0} {tells : Verdict Value → Answer} {value : Value → ℕ × ℕ} (c : Tells tells value) where

@@ -195,11 +195,13 @@ pub names-whole : (s : ℕ) {out : List ℕ} → isSyllable s ≡ true → lengt
 names-whole s h room = record { fills = filled-whole (no-syllable-passes s h) room refl }
 
 -- THE NAME OF A SYLLABLE IS READ AS THE SYLLABLE
+pub name-reads : (s : ℕ) → isSyllable s ≡ true → ReadsName (nameOf s) (Syllable s)
+name-reads s is = reads-some (bytes-taken (nameOf s) (omega (arith, syllable-name-most s))) (named-some s is)
+
 pub read-named : {s k : ℕ} {out out′ : List ℕ} {r : Named} → Names s out (Done k) out′ → ReadsName (take k out′) r → r ≡ Syllable s
 read-named {s} f g =
     let h = fills-done (f .fills) in
-    let is = passes-syllable s (h .0) in
-    reads-name-unique (rw (fills-front (f .fills) (h .1)) at g) (reads-some (bytes-taken (nameOf s) (omega (arith, syllable-name-most s))) (named-some s is))
+    reads-name-unique (rw (fills-front (f .fills) (h .1)) at g) (name-reads s (passes-syllable s (h .0)))
 
 -- A NAME THAT IS READ IS THE SYLLABLE'S
 pub name-read : {name out out′ : List ℕ} {s : ℕ} {r : Filled} → ReadsName name (Syllable s) → length name ≤ length out → Names s out r out′

@@ -1,0 +1,68 @@
+-- Other scripts pass through (document 01, its first paragraph): a text with no syllable and no initial, peak or final is its own simple form and its own gathered
+-- form. In order: such a code point (`Foreign`), which is alone (`letters-foreign`) and joins with nothing before it; SIMPLE FORM (`simple-others`); GATHERED
+-- FORM (`clustered-others`, `gathered-others`).
+-- Not here: that full parts, joining and filler groups leave such a text (crate letters, `full-none`; joining, `join-none`; fillers, `turned-none`). Assumes nothing.
+use mathlib.Core.Path.{_≡_, refl, sym, _∙_, ap}
+use mathlib.Core.Bool.{true, false, true≢false}
+use mathlib.Core.List.{List, [], _∷_}
+use Prim.Native.Nat.{ℕ}
+use native.Mathlib.Omega.{arith}
+use lib.ListN.{length}
+use Rattle.laws.specs.Lists.{each, All, none, also}
+use Rattle.laws.proofs.Lists.{each-alone, all-map}
+use Rattle.letters.specs.Sorts.{sortOf}
+use Rattle.letters.specs.Syllables.{isSyllable}
+use Rattle.letters.specs.declared.sort.Sort.{Sort}
+use Rattle.letters.proofs.Sorts.{sort-between}
+use Rattle.letters.proofs.Parts.{full-none}
+use Rattle.joining.specs.Roles.{Hard}
+use Rattle.joining.proofs.Roles.{peak-range, final-range}
+use Rattle.joining.proofs.Joins.{join-none}
+use Rattle.clusters.specs.Table.{lettersOf, nowhere, placeAs, placeOf}
+use Rattle.clusters.specs.Simple.{letterAt, simple}
+use Rattle.clusters.specs.Gathering.{clustered, gathered}
+use Rattle.clusters.proofs.Rule.{table-rule, letters-least}
+use Rattle.clusters.proofs.Clustering.{listed-placed}
+use Rattle.clusters.proofs.GatheredForm.{cut-one}
+
+-- no syllable, and no initial, peak or final; a filler is one too
+abbrev pub Foreign : ℕ → Type 0
+Foreign c = (isSyllable c ≡ false) × (placeOf c ≡ nowhere)
+
+-- what has no place is in no cluster, and has its own row
+letters-foreign : (c : ℕ) → placeOf c ≡ nowhere → lettersOf c ≡ c ∷ []
+letters-foreign c n = by (lettersOf c) refl (table-rule .alone c)
+  where
+    first : {a b : ℕ} {x : List ℕ} → All (λ l. placeOf l ≡ placeOf c) (a ∷ b ∷ x) → All (λ l. placeOf l ≡ nowhere → ⊥) (a ∷ b ∷ x) → ⊥
+    first (also p q) (also r s) = r (p ∙ n)
+
+    by : (x : List ℕ) → lettersOf c ≡ x → All (λ l. lettersOf l ≡ l ∷ []) x → lettersOf c ≡ c ∷ []
+    by [] e h = absurd (omega (arith, letters-least c, ap length e))
+    by (a ∷ []) e (also h none) = e ∙ ap (λ l. l ∷ []) (sym (table-rule .distinct c a (e ∙ sym h)))
+    by (a ∷ b ∷ x) e h = absurd (first (rw e at (table-rule .one-place c)) (listed-placed c e))
+
+-- it joins with nothing before it: a modern peak, and a modern final, has a place
+hard-foreign : (c : ℕ) → placeOf c ≡ nowhere → Hard c
+hard-foreign c n = (
+  (λ r. let h = peak-range c r in placed (sym (sort-between 0x1161 0x1175 tt (h .0) (h .1))) refl),
+  (λ r. let h = final-range c r in placed (sym (sort-between 0x11A8 0x11C2 tt (h .0) (h .1))) refl),
+)
+  where
+    placed : {s : Sort} → sortOf c ≡ s → letterAt (placeAs s) ≡ true → ⊥
+    placed e q = true≢false (sym q ∙ sym (ap (λ s. letterAt (placeAs s)) e) ∙ ap letterAt n)
+
+-- ---- SIMPLE FORM
+pub simple-others : {x : List ℕ} → All Foreign x → simple x ≡ x
+unfolding simple
+simple-others p = ap (each lettersOf) (full-none (all-map (λ c h. h .0) p)) ∙ each-alone lettersOf (all-map (λ c h. letters-foreign c (h .1)) p)
+
+-- ---- GATHERED FORM
+pub clustered-others : {x : List ℕ} → All Foreign x → clustered x ≡ x
+unfolding clustered
+clustered-others none = refl
+clustered-others (also {a = a} h none) = refl
+clustered-others (also {a = a} h (also {a = b} {x = x} k p)) = cut-one b (k .1) [] a x ∙ ap (λ l. a ∷ l) (clustered-others (also k p))
+
+pub gathered-others : {x : List ℕ} → All Foreign x → gathered x ≡ x
+unfolding gathered
+gathered-others p = rw (simple-others p, clustered-others p) (join-none (all-map (λ c h. hard-foreign c (h .1)) p))
