@@ -11,7 +11,7 @@ extern "C" {
 #endif
 
 /* Of every call: it keeps nothing from one call to the next, allocates nothing, and calls nothing outside the library. It writes only to the buffer lent
-   to it and its own stack, of which it needs at most 16 KiB. Any threads may call at once, each with an output buffer of its own.
+   to it and its own stack, of which it needs at most 16 KiB. Any threads, and signal handlers, may call at once, each with an output buffer of its own.
 
    What the caller must keep, since no callee can check it:
 
@@ -77,7 +77,7 @@ enum {
      count            how many ill-formed subparts there were; a U+FFFD that stood in the text is none
 
    Refuses PULPHOPPER_OVER_LIMIT, then PULPHOPPER_NO_ROOM. To learn the length needed, lend NULL and 0: either the mended text is empty, or the
-   refusal says it. A mended text can be longer than the limit, where it was ill-formed; mending any other again changes nothing. */
+   refusal says it. Only a text with ill-formed parts can be mended to more bytes than the limit; any other mended text, mended again, stays as it is. */
 pulphopper_answer pulphopper_mend(const uint8_t *text, size_t text_len, uint8_t *out, size_t out_len);
 
 /* Writes the name of a syllable to the front of `out`, of which the rest stays as it was: "HANGUL SYLLABLE " and three strings, 17 to 23 bytes, as the
@@ -113,8 +113,9 @@ enum {
      second, second_len   those of the other, likewise; the two may overlap, since nothing is written
      value                PULPHOPPER_BEFORE, PULPHOPPER_EQUAL or PULPHOPPER_AFTER
 
-   Swapping the labels swaps before and after, and the order is transitive: it may be used to sort. Refuses PULPHOPPER_OVER_LIMIT where either label is
-   too long. */
+   Swapping the labels swaps before and after, and the order is transitive: it may be used to sort, and (int)answer.value - PULPHOPPER_EQUAL is what qsort
+   asks for (docs/C.md). Labels that rank equal need not be the same bytes. Refuses PULPHOPPER_OVER_LIMIT where either label is too long, and does not say
+   which. */
 pulphopper_answer pulphopper_rank(const uint8_t *first, size_t first_len, const uint8_t *second, size_t second_len);
 
 #ifdef __cplusplus
