@@ -77,7 +77,7 @@ enum {
      count            how many ill-formed subparts there were; a U+FFFD that stood in the text is none
 
    Refuses PULPHOPPER_OVER_LIMIT, then PULPHOPPER_NO_ROOM. To learn the length needed, lend NULL and 0: either the mended text is empty, or the
-   refusal says it. Only a text with ill-formed parts can be mended to more bytes than the limit; any other mended text, mended again, stays as it is. */
+   refusal says it. Where a text was ill-formed, what it is mended to can be longer than the limit; within the limit a mended text, mended again, stays as it is. */
 pulphopper_answer pulphopper_mend(const uint8_t *text, size_t text_len, uint8_t *out, size_t out_len);
 
 /* Writes the name of a syllable to the front of `out`, of which the rest stays as it was: "HANGUL SYLLABLE " and three strings, 17 to 23 bytes, as the

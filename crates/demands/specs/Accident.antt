@@ -1,6 +1,7 @@
 -- The accident: "The name had reached us once as finished syllables and once as single letters. On paper the two look alike; our tool took them for two
 -- boats. A visiting yacht was sent to the berth and found it full." On document 01's repertoire what mending makes of two names is one and the same text of bytes
--- exactly where the Unicode Standard calls them canonically equivalent (D70); of whatever characters, only there. Statements over any two calls of mending that are done; nothing is proved here.
+-- exactly where the Unicode Standard calls them canonically equivalent (D70); of whatever characters, only there. Statements over any two calls of mending that
+-- are done; nothing is proved here.
 -- Not here: what the Standard's definitions are (crate normal, specs/Forms), what mending is (crate mending, specs/Mending). Assumes nothing.
 use mathlib.Core.Path.{_≡_}
 use mathlib.Core.Bool.{false}

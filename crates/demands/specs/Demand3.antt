@@ -5,8 +5,8 @@
 -- with what joining all that stands before it gives. No syllable is made from letters with ill-formed bytes between them: around each ill-formed subpart the
 -- joined text is what joining all before it gives, then one FFFD, then what joining all behind it gives."
 -- Statements over calls of mending that are done, whatever room they were given: a call within the limit and with three bytes for each is (`IsDone`), and so is one
--- with just the room that it needs (demand 1's row for it, crate demands_calls). Nothing is proved here. Not here: the places as
--- they are computed (crate laws, specs/Damage) and what has to be true of them (crate laws, specs/Places). Assumes nothing.
+-- with just the room that it needs (demand 1's row for it, crate demands_calls). Nothing is proved here. Not here: the places as they are computed (crate laws,
+-- specs/Damage) and what has to be true of them (crate laws, specs/Places). Assumes nothing.
 use mathlib.Core.Path.{_≡_}
 use mathlib.Core.List.{List, [], _∷_, _++_}
 use Prim.Native.Nat.{ℕ, _*_, _≤_}

@@ -68,9 +68,12 @@ pub limit-numbered : (limit size : ℕ) → Numbered (overLimit limit size)
 unfolding overLimit
 limit-numbered limit size = numbered-either (ltb limit size) (refuses 1 limit) passes tt tt
 
-pub room-numbered : (room needed : ℕ) → Numbered (noRoom room needed)
+room-numbered : (room needed : ℕ) → Numbered (noRoom room needed)
 unfolding noRoom
 room-numbered room needed = numbered-either (ltb room needed) (refuses 3 needed) passes tt tt
+
+pub fits-numbered : {A : Type 0} (before : Check) (whole out : List A) → Numbered before → Numbered (fits before whole out)
+fits-numbered before whole out h = numbered-both before (noRoom (length out) (length whole)) h (room-numbered (length out) (length whole))
 
 pub syllable-numbered : (code : ℕ) → Numbered (noSyllable code)
 unfolding noSyllable
@@ -119,10 +122,8 @@ module _ {Value : Type 0} {tells : Verdict Value → Answer} {value : Value → 
         → out′ ≡ after (fits before whole out) whole out
         → rows.ForC r (Demand1 (before ∷ noRoom (length out) (length whole) ∷ []) (value v) out (front whole out) (rows.asC r) out′)
     filled-for-c before whole out h e q =
-        let room : Check = noRoom (length out) (length whole) in
         for-c (fits before whole out) v e
-        (demanded (before ∷ room ∷ [])
-        (ap rows.asC e ∙ as-c (fits before whole out) (numbered-both before room h (room-numbered (length out) (length whole))) v)
+        (demanded (before ∷ noRoom (length out) (length whole) ∷ []) (ap rows.asC e ∙ as-c (fits before whole out) (fits-numbered before whole out h) v)
         (q ∙ after-kept (fits before whole out) whole out))
 
 -- ---- answers

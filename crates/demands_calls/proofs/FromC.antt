@@ -5,7 +5,7 @@ use mathlib.Core.List.{List, [], _∷_}
 use Prim.Native.Nat.{ℕ, zero, suc, _+_, _≤_}
 use native.Mathlib.Omega.{arith}
 use lib.ListN.{length, take}
-use Rattle.answers.specs.Checks.{Check, passes, refuses, inOrder, noRoom, takesBytes}
+use Rattle.answers.specs.Checks.{Check, passes, refuses, inOrder, takesBytes}
 use Rattle.answers.specs.Verdicts.{Verdict, verdict, fits}
 use Rattle.answers.specs.declared.Filled.the-variants.{Done}
 use Rattle.answers.proofs.Verdicts.{fills-done, fills-front}
@@ -27,7 +27,7 @@ use Rattle.pulphopper.specs.Replies.{plainAnswer, Mends, NamesForC, RanksForC}
 use Rattle.pulphopper_answer.specs.declared.Answer.{Answer}
 use Rattle.demands.proofs.Accident.{one-boat}
 use Rattle.demands_calls.specs.FromC as demand
-use Rattle.demands_calls.proofs.Calls.{Numbered, numbered-both, limit-numbered, room-numbered, syllable-numbered, name-numbered}
+use Rattle.demands_calls.proofs.Calls.{Numbered, numbered-both, limit-numbered, fits-numbered, syllable-numbered, name-numbered}
 use Rattle.demands_calls.proofs.Calls.{Tells, counted-for-c, plain-for-c, order-for-c}
 
 -- ---- a call that refuses nothing passed its checks, and answers its value
@@ -47,8 +47,7 @@ bytes-numbered bytes = limit-numbered 16384 (length bytes)
 module _ {text out out′ : List ℕ} {r : Answer} (h : Mends text out r out′) (z : r .refusal ≡ 0) where
   mended-passed : fits (takesBytes text) (mended text) out ≡ passes
   mended-passed =
-      unrefused counted-for-c (fits (takesBytes text) (mended text) out)
-      (numbered-both (takesBytes text) (noRoom (length out) (length (mended text))) (bytes-numbered text) (room-numbered (length out) (length (mended text))))
+      unrefused counted-for-c (fits (takesBytes text) (mended text) out) (fits-numbered (takesBytes text) (mended text) out (bytes-numbered text))
       (countedOf mended text) (h .answers) z
 
   mended-told : r ≡ record { refusal = 0; count = illText text; value = length (mended text) }
@@ -78,8 +77,7 @@ counted-from-c text out out′ r h z P read = ap (λ (a : Answer). a .count) (me
 module _ {code : ℕ} {out out′ : List ℕ} {r : Answer} (h : NamesForC code out r out′) (z : r .refusal ≡ 0) where
   named-passed : fits (noSyllable code) (nameOf code) out ≡ passes
   named-passed =
-      unrefused plain-for-c (fits (noSyllable code) (nameOf code) out)
-      (numbered-both (noSyllable code) (noRoom (length out) (length (nameOf code))) (syllable-numbered code) (room-numbered (length out) (length (nameOf code))))
+      unrefused plain-for-c (fits (noSyllable code) (nameOf code) out) (fits-numbered (noSyllable code) (nameOf code) out (syllable-numbered code))
       (length (nameOf code)) (h .answers) z
 
   named-told : r .value ≡ length (nameOf code)

@@ -1,5 +1,5 @@
 -- The demands over the calls that the drawing program makes, from C. What such a call does where it refuses nothing is what the call below it does (`MendedFromC`,
--- `NamedFromC`, `ReadFromC`), so that every statement of crate demands holds of it; and what the header promises beside that: one boat, the count, a name read
+-- `NamedFromC`, `ReadFromC`), so that what crate demands says of that call holds of it; and what the header promises beside that: one boat, the count, a name read
 -- back, an order to sort by. Statements over any results that the contracts of the calls for C admit; nothing is proved here.
 -- Not here: demand 1 of these calls (specs/Calls), the contracts (crate pulphopper, specs/Replies). Assumes nothing.
 use mathlib.Core.Path.{_≡_}
