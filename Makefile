@@ -1,5 +1,6 @@
-# The archive for C, proved, and its installation, for GNU make: 'make', 'make install PREFIX=..', 'make uninstall PREFIX=..', 'make check', 'make bench'.
-# It proves, tests and measures nothing itself: rt, .ci/run and bench/run do.
+# The archive for C, proved, and its installation, for GNU make: 'make', 'make install PREFIX=..',
+# 'make uninstall PREFIX=..', 'make check', 'make bench'. It proves, tests and measures nothing
+# itself: rt, .ci/run and bench/run do.
 SHELL := bash
 .SHELLFLAGS := -euo pipefail -c
 
@@ -9,7 +10,8 @@ INCLUDEDIR ?= $(PREFIX)/include
 DESTDIR ?=
 VERSION := $(shell awk '$$2 ~ /^PULPHOPPER_VERSION_(MAJOR|MINOR|PATCH)$$/ { printf "%s%s", dot, $$3; dot = "." }' include/pulphopper.h)
 
-# The recipes take the places from the environment, so that a path may have spaces, and signs that mean something to the shell.
+# The recipes take the places from the environment, so that a path may have spaces, and signs that
+# mean something to the shell.
 export PREFIX LIBDIR INCLUDEDIR DESTDIR VERSION
 
 archive := target/staticlib/libpulphopper.a

@@ -1,5 +1,5 @@
-/* one_boat: reads lines 'BERTH LABEL', as '12 갈매기', and prints which two berths carry one boat, however their labels are spelt. A line that
-   it cannot take it names on standard error and leaves out, and exits with 1. It knows nothing of Hangul: which spellings are one, the library knows. */
+/* one_boat: reads lines such as '12 갈매기' and prints which berths carry one boat, in any spelling.
+   It names lines that it cannot take on standard error, leaves them out, and then exits with 1. */
 #include "pulphopper.h"
 #include <stdio.h>
 #include <string.h>
@@ -9,12 +9,12 @@
 
 static struct berth {
     unsigned number;
-    size_t length;
-    uint8_t label[PULPHOPPER_MENDED_MOST(LINE_MOST)]; /* mended: its first `length` bytes */
+    size_t length;                                    /* of the mended label, in `label` */
+    uint8_t label[PULPHOPPER_MENDED_MOST(LINE_MOST)]; /* always enough */
 } berths[BERTHS_MOST];
 static size_t count;
 
-/* Reads a line, without its line feed, and answers its length. Of a line over LINE_MOST all is read and the beginning kept. */
+/* Reads a line and returns its length, without the line feed. Only LINE_MOST bytes are kept. */
 static size_t read_line(uint8_t *line) {
     size_t length = 0;
     for (int byte = getchar(); byte != EOF && byte != '\n'; byte = getchar()) {
@@ -24,7 +24,7 @@ static size_t read_line(uint8_t *line) {
     return length;
 }
 
-/* Adds a line's berth, with its label mended, and prints which berths before it carry the same boat. Answers NULL; or why it cannot, and adds nothing. */
+/* Adds a line's berth and prints which others carry its boat. Returns NULL, or why it cannot. */
 static const char *add(const uint8_t *line, size_t length) {
     if (length > LINE_MOST) return "it is too long";
     if (count == BERTHS_MOST) return "there are too many";
@@ -35,7 +35,7 @@ static const char *add(const uint8_t *line, size_t length) {
     }
     if (at == 0 || length - at < 2 || line[at] != ' ') return "it is not one to five digits, a space and a label";
     pulphopper_answer answer = pulphopper_mend(line + at + 1, length - at - 1, to->label, sizeof to->label);
-    if (answer.refusal != PULPHOPPER_DONE) return "its label was refused"; /* never, with these sizes: but no answer is used unseen */
+    if (answer.refusal != PULPHOPPER_DONE) return "its label was refused"; /* never: it has room */
     if (answer.count > 0) printf("berth %u: parts of the label that could not be read: %u\n", to->number, (unsigned)answer.count);
     to->length = (size_t)answer.value;
     for (size_t i = 0; i < count; i++) {

@@ -1,7 +1,6 @@
--- The readings of the code's answers are injective: an answer is known by its number and place, or its value (`told-injective`,
--- `refusedBy-injective`, `filled-injective`, `checked-injective`). And a refusal's number is at most 7, so that it is one digit (`told-below`,
--- `number-below`).
--- Not here: which answer is given when (proofs/Verdicts). Assumes nothing.
+-- The readings of the code's answers are injective: an answer is known by its number and place, or
+-- its value (`told-injective`, `refusedBy-injective`, `filled-injective`, `checked-injective`). And
+-- a refusal's number is at most 7, so that it is one digit (`told-below`, `number-below`).
 use mathlib.Core.Path.{_≡_, refl, sym, _∙_, ap}
 use mathlib.Core.List.{List, [], _∷_}
 use Prim.Native.Nat.{ℕ, _-_, _≤_}
@@ -9,13 +8,13 @@ use native.Mathlib.Omega.{arith}
 use lib.ListN.{getD}
 use Rattle.answers.specs.Verdicts.{Verdict, done, refused}
 use Rattle.answers.specs.Answers.{told, refusedBy, checked, filled}
-use Rattle.answers.specs.declared.Refusal.{Refusal}
-use Rattle.answers.specs.declared.Refusal.the-variants.{OverLimit, BadCodePoint, NoRoom, NoSyllable, NoName, NoRecord, BadLayout}
-use Rattle.answers.specs.declared.Told.{Told}
-use Rattle.answers.specs.declared.Checked.{Checked}
-use Rattle.answers.specs.declared.Checked.the-variants.{Passed, Refused as CheckRefused}
-use Rattle.answers.specs.declared.Filled.{Filled}
-use Rattle.answers.specs.declared.Filled.the-variants.{Done, Refused}
+use Rattle.answers.specs.declared.refusal.Refusal.{Refusal}
+use Rattle.answers.specs.declared.refusal.Refusal.the-variants.{OverLimit, BadCodePoint, NoRoom, NoSyllable, NoName, NoRecord, BadLayout}
+use Rattle.answers.specs.declared.refusal.Told.{Told}
+use Rattle.answers.specs.declared.answer.Checked.{Checked}
+use Rattle.answers.specs.declared.answer.Checked.the-variants.{Passed, Refused as CheckRefused}
+use Rattle.answers.specs.declared.answer.Filled.{Filled}
+use Rattle.answers.specs.declared.answer.Filled.the-variants.{Done, Refused}
 
 -- the refusal of a number and a place
 abbrev untold : ℕ → ℕ → Refusal

@@ -1,6 +1,7 @@
--- Laws of the checks: a bad code point by its range; the first one, at a loop's index; each check where it refuses and where it passes;
--- and back, what a code point that is not bad and a text that is taken say. Not here: the verdicts made of them (proofs/Verdicts). Assumes nothing.
-use mathlib.Core.Path.{_≡_, refl, sym, _∙_}
+-- Laws of the checks: a bad code point by its range; the first one, at a loop's index; each check
+-- where it refuses and where it passes; and back, what a code point that is not bad and a text that
+-- is taken say.
+use mathlib.Core.Path.{_≡_, refl, sym, _∙_, ap}
 use mathlib.Core.Bool.{Bool, true, false, cond}
 use mathlib.Core.Logic.{_⊎_}
 use mathlib.Core.List.{List, [], _∷_}
@@ -106,11 +107,12 @@ module _ (room needed : ℕ) where
   unfolding lacking
   lacking-all h = simp (lt-ltb room needed h)
 
-  -- n is the length needed, as the code counted it
-  pub lacking-counted : {n : ℕ} → n ≡ needed → room < n → n ≡ lacking room needed
-  lacking-counted e h = e ∙ lacking-all (omega arith)
+  -- n is the length needed, as the code counted it, and k what it then found to be lacking
+  pub lacking-counted : {n k : ℕ} → n ≡ needed → k ≡ lacking room n → k ≡ lacking room needed
+  lacking-counted e h = h ∙ ap (lacking room) e
 
-  -- back, where n was found to be lacking: it is nothing and there is room, or it is the length needed
+  -- back, where n was found to be lacking: it is nothing and there is room, or it is the length
+  -- needed
   module _ {n : ℕ} (found : n ≡ lacking room needed) where
     pub lacking-room : n ≡ 0 → needed ≤ room
     lacking-room h =

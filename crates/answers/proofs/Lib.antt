@@ -1,5 +1,5 @@
--- Crate answers, proofs/: the laws of checks in order, of the checks, of the verdicts, and that the readings are injective, lowest first.
--- Not here: the definitions (specs/), and the proofs of the functions, which stand in folders of their own.
+-- The laws of crate answers. What a caller may cite is `pub mod`; functions' proofs have folders of
+-- their own.
 pub mod Orders
 pub mod Checks
 pub mod Verdicts

@@ -1,7 +1,7 @@
--- Checks in order. In order: a check passes or refuses, never both (`passes-refuses`); where all pass, the first passes and so do the others
--- (`order-first`, `order-rest`); a check by a test (`passes-true`, `passes-false`); checks and then more (`order-refused`, `order-passed`, `order-one`,
--- `order-flat`).
--- Not here: the checks of document 01 (proofs/Checks). Assumes nothing.
+-- Checks in order. In order: a check passes or refuses, never both (`passes-refuses`); where all
+-- pass, the first passes and so do the others (`order-first`, `order-rest`); a check by a test
+-- (`passes-true`, `passes-false`); checks and then more (`order-refused`, `order-passed`,
+-- `order-one`, `order-flat`).
 use mathlib.Core.Path.{_≡_, refl, sym}
 use mathlib.Core.Bool.{Bool, true, false, cond}
 use mathlib.Core.List.{List, [], _∷_, _++_}
@@ -31,7 +31,8 @@ pub passes-false : (t : Bool) (number place : ℕ) → cond t (refuses number pl
 passes-false true number place e = absurd (passes-refuses (sym e))
 passes-false false number place e = refl
 
--- checks and then more checks: a refusal of the first ones counts, and where they pass the others count
+-- checks and then more checks: a refusal of the first ones counts, and where they pass the others
+-- count
 pub order-refused : (x y : List Check) {number place : ℕ} → inOrder x ≡ refuses number place → inOrder (x ++ y) ≡ refuses number place
 order-refused [] y e = absurd (passes-refuses e)
 order-refused (passes ∷ x) y e = order-refused x y e

@@ -1,8 +1,7 @@
--- The ways in which a call returns, one law each: of a call that takes one code point, and of a call that fills a lent buffer, for any check,
--- elements and value; that any two results that the scheme admits are equal (`fills-unique`); and what a call that is done says and leaves
+-- The ways in which a call returns, one law each: of a call that takes one code point, and of a
+-- call that fills a lent buffer, for any check, elements and value; that any two results that the
+-- scheme admits are equal (`fills-unique`); and what a call that is done says and leaves
 -- (`fills-done`, `fills-front`).
--- Not here: the checks by themselves (proofs/Checks).
--- Assumes nothing.
 use mathlib.Core.Path.{_≡_, refl, sym, _∙_, ap}
 use mathlib.Core.Bool.{Bool, true, false}
 use mathlib.Core.List.{List, [], _∷_}
@@ -14,12 +13,12 @@ use Rattle.laws.specs.Writing.{front, Fronts}
 use Rattle.answers.specs.Checks.{Check, passes, refuses, noRoom, bad, badCodePoint, lacking, takesText}
 use Rattle.answers.specs.Verdicts.{Verdict, done, refused, verdict, after, fits, Fills}
 use Rattle.answers.specs.Answers.{checked, Makes}
-use Rattle.answers.specs.declared.Refusal.{Refusal}
-use Rattle.answers.specs.declared.Refusal.the-variants.{NoRoom}
-use Rattle.answers.specs.declared.Checked.{Checked}
-use Rattle.answers.specs.declared.Checked.the-variants.{Passed, Refused as CheckRefused}
-use Rattle.answers.specs.declared.Filled.{Filled}
-use Rattle.answers.specs.declared.Filled.the-variants.{Done, Refused}
+use Rattle.answers.specs.declared.refusal.Refusal.{Refusal}
+use Rattle.answers.specs.declared.refusal.Refusal.the-variants.{NoRoom}
+use Rattle.answers.specs.declared.answer.Checked.{Checked}
+use Rattle.answers.specs.declared.answer.Checked.the-variants.{Passed, Refused as CheckRefused}
+use Rattle.answers.specs.declared.answer.Filled.{Filled}
+use Rattle.answers.specs.declared.answer.Filled.the-variants.{Done, Refused}
 use Rattle.answers.proofs.Answers.{filled-injective}
 use Rattle.answers.proofs.Orders.{order-first}
 use Rattle.answers.proofs.Checks.{code-bad, code-good, no-room-refuses, no-room-passes, lacking-size, lacking-less, lacking-room}
@@ -76,7 +75,8 @@ fills-front {whole = whole} {out = out} f e = rw (e, fills-done f .2) (take-appe
 pub checks-passed : {v : Checked} {before : Check} → checked v ≡ before → v ≡ Passed → before ≡ passes
 checks-passed e q = sym e ∙ ap checked q
 
--- ---- a call that makes of a text another: the three ways in which it returns, by what the code has at each
+-- ---- a call that makes of a text another:
+-- the three ways in which it returns, by what the code has at each
 
 module _ (make : List ℕ → List ℕ) {text out : List ℕ} where
   -- v is what the checks said
@@ -93,7 +93,8 @@ module _ (make : List ℕ → List ℕ) {text out : List ℕ} where
     makes-done e w =
         record { fills = rw (w .size) (filled-whole taken (lacking-room (length out) (length (make text)) found e) (w .holds)) }
 
--- any two results are equal; and so are those of two texts that pass the same checks and of which the same is made
+-- any two results are equal; and so are those of two texts that pass the same checks and of which
+-- the same is made
 pub makes-same : (make : List ℕ → List ℕ) {x y : List ℕ} (out : List ℕ) → takesText x ≡ takesText y → make x ≡ make y → {r s : Filled} {o p : List ℕ}
     → Makes make x out r o → Makes make y out s p → (r ≡ s) × (o ≡ p)
 makes-same make out e q f g =

@@ -1,6 +1,7 @@
--- The checks of document 01, 'Refusal numbers': what 1, 2 and 3 are given for, with which place, and that the first check that refuses counts.
--- It knows the paper's numbers alone: nothing of the code's enums (specs/Answers), nor of Hangul. The checks of 4 to 7 stand in the crates
--- that make them. Assumes nothing.
+-- The checks of document 01, 'Refusal numbers': what 1, 2 and 3 are given for, with which place,
+-- and that the first check that refuses counts. It knows the paper's numbers alone: nothing of the
+-- code's enums (specs/Answers), nor of Hangul. The checks of 4 to 7 stand in the crates that make
+-- them.
 use mathlib.Core.Bool.{Bool, true, false, cond, _||_}
 use mathlib.Core.List.{List, [], _∷_}
 use Prim.Native.Nat.{ℕ, suc}
@@ -40,7 +41,8 @@ badCodePoint text = cond (ltb (firstBad text) (length text)) (refuses 2 (firstBa
 unfoldable pub noRoom : ℕ → ℕ → Check
 noRoom room needed = cond (ltb room needed) (refuses 3 needed) passes
 
--- the length needed where a buffer has no room for it, and 0 where it has: what a call finds out before it writes
+-- the length needed where a buffer has no room for it, and 0 where it has: what a call finds out
+-- before it writes
 unfoldable pub lacking : ℕ → ℕ → ℕ
 lacking room needed = cond (ltb room needed) needed 0
 

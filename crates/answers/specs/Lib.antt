@@ -1,5 +1,5 @@
--- Crate answers, specs/: the checks, the verdicts, and the code's answers read as verdicts, lowest first.
--- Not here: any law or proof (proofs/).
+-- The definitions of crate answers, lowest first: the checks, the verdicts, and the code's answers
+-- read as verdicts.
 pub mod Checks
 pub mod Verdicts
 pub mod Answers

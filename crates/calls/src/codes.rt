@@ -1,11 +1,10 @@
 // The answers of the calls on one code point as four numbers: 1 the sorter, 2 the one step.
-// Not here: how a call comes in and an answer goes out.
 use crate::reply;
 use crate::reply::Reply;
-use letters::sort::Sort;
-use letters::sort::Sorted;
-use letters::step::Parts;
-use letters::step::Stepped;
+use letters::Parts;
+use letters::Sort;
+use letters::Sorted;
+use letters::Stepped;
 
 // The sorts as numbers, in the order of document 01.
 fn number_of(sort: Sort) -> u32 {
@@ -24,7 +23,7 @@ fn number_of(sort: Sort) -> u32 {
     }
 }
 
-pub fn sorted(answer: Sorted) -> Reply {
+pub(crate) fn sorted(answer: Sorted) -> Reply {
     match answer {
         Sorted::Is(sort) => reply::done(number_of(sort), 0, 0),
         Sorted::Refused(refusal) => reply::refused(refusal),
@@ -38,7 +37,7 @@ fn parts(parts: Parts) -> Reply {
     }
 }
 
-pub fn stepped(answer: Stepped) -> Reply {
+pub(crate) fn stepped(answer: Stepped) -> Reply {
     match answer {
         Stepped::Into(into) => parts(into),
         Stepped::Refused(refusal) => reply::refused(refusal),

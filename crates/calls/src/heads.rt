@@ -1,9 +1,9 @@
-// The head of a call: eight numbers, the bounds of each kind, and how large what comes in and what is
-// lent are. Not here: the elements behind it.
+// The head of a call: eight numbers, the bounds of each kind, and the sizes of what comes in and of
+// what is lent.
 use crate::wire;
 ghost use Prim.Native.Nat.{_≤_};
 
-pub struct Head {
+pub(crate) struct Head {
     pub kind: u32,
     pub x: u32,
     pub y: u32,
@@ -81,9 +81,9 @@ fn is_good(head: Head) -> bool {
     is_kept(head)
 }
 
-// Reads the next head. It is of kind 0, of which there is no call, where the input ends before or
+// Reads the next head. It is of kind 0, of which there is no call, if the input ends before it or
 // the call does not keep the bounds of its kind.
-pub fn next() -> Head {
+pub(crate) fn next() -> Head {
     let mut bytes = [0u8; 32];
     let size = io::read_full(libc::STDIN_FILENO, &mut bytes);
     let head = read(&bytes);
@@ -93,8 +93,8 @@ pub fn next() -> Head {
     read(&bytes[..0])
 }
 
-// A size, or the most where it is larger: a good head has none that is.
-pub fn at_most(most: usize, size: usize) -> usize
+// A size, or the most if it is larger: in a good head none is.
+pub(crate) fn at_most(most: usize, size: usize) -> usize
     ensures { λ r. ⌜ r ≤ most ⌝ }
 {
     if size < most {
@@ -111,7 +111,7 @@ fn elements(head: Head) -> usize
 }
 
 // How many code points come in.
-pub fn codes(head: Head) -> usize
+pub(crate) fn codes(head: Head) -> usize
     ensures { λ r. ⌜ r ≤ 40000 ⌝ }
 {
     if is_of_text(head.kind) {
@@ -121,7 +121,7 @@ pub fn codes(head: Head) -> usize
 }
 
 // How many bytes come in, of code points as of bytes.
-pub fn size(head: Head) -> usize
+pub(crate) fn size(head: Head) -> usize
     ensures { λ r. ⌜ r ≤ 160000 ⌝ }
 {
     if is_of_text(head.kind) {
@@ -131,7 +131,7 @@ pub fn size(head: Head) -> usize
 }
 
 // Is what is lent code points?
-pub fn lends_codes(kind: u32) -> bool {
+pub(crate) fn lends_codes(kind: u32) -> bool {
     match kind {
         1..=7 => true,
         10 => true,
@@ -142,7 +142,7 @@ pub fn lends_codes(kind: u32) -> bool {
 }
 
 // How many code points are lent.
-pub fn room(head: Head) -> usize
+pub(crate) fn room(head: Head) -> usize
     ensures { λ r. ⌜ r ≤ 120000 ⌝ }
 {
     if lends_codes(head.kind) {
@@ -151,7 +151,7 @@ pub fn room(head: Head) -> usize
     0
 }
 
-// How many bytes are lent: those of the image where a record is to be written.
+// How many bytes are lent: those of the image if a record is to be written.
 fn filled(head: Head) -> usize
     ensures { λ r. ⌜ r ≤ 120000 ⌝ }
 {
@@ -164,8 +164,8 @@ fn filled(head: Head) -> usize
     at_most(120000, head.room)
 }
 
-// Where the bytes that are written end: the answer's numbers stand before what is lent.
-pub fn end(head: Head) -> usize
+// Where the bytes that are written end: the answer's numbers come before what is lent.
+pub(crate) fn end(head: Head) -> usize
     ensures { λ r. ⌜ 16 ≤ r ⌝ }
     ensures { λ r. ⌜ r ≤ 600016 ⌝ }
 {

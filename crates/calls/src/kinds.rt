@@ -1,11 +1,9 @@
-// Which call each kind is (docs/CALLS.md), by what comes in and what is lent. A kind that is not listed
-// does not come here: the head was found good. Not here: how a call comes in and an answer goes out.
+// Which call each kind is (docs/CALLS.md), by what comes in and what is lent. A kind that is not
+// listed does not come here: the head was found good.
 use crate::codes;
-use crate::encoded;
 use crate::heads;
 use crate::heads::Head;
 use crate::labelled;
-use crate::named;
 use crate::ranked;
 use crate::reply;
 use crate::reply::Reply;
@@ -15,19 +13,19 @@ use answers::Filled;
 // The calls from text to text.
 fn formed(kind: u32, text: &[u32], lent: &mut [u32]) -> Filled {
     match kind {
-        3 => letters_apart::full_parts(text, lent),
-        4 => joining_text::join(text, lent),
-        5 => clusters_simple::simple_form(text, lent),
-        6 => clusters_gathered::gathered_form(text, lent),
-        _ => fillers_text::turn(text, lent),
+        3 => letters::full_parts(text, lent),
+        4 => joining::join(text, lent),
+        5 => clusters::simple_form(text, lent),
+        6 => clusters::gathered_form(text, lent),
+        _ => fillers::turn(text, lent),
     }
 }
 
 fn codes_to_codes(head: Head, text: &[u32], lent: &mut [u32]) -> Reply {
     let kind = head.kind;
     match kind {
-        1 => codes::sorted(letters_sort::sorter(head.x)),
-        2 => codes::stepped(letters_step::one_step(head.x)),
+        1 => codes::sorted(letters::sorter(head.x)),
+        2 => codes::stepped(letters::one_step(head.x)),
         13 => ranked::codes(text, head.first),
         _ => reply::filled(formed(kind, text, lent)),
     }
@@ -37,8 +35,8 @@ fn to_codes(head: Head, text: &[u32], bytes: &[u8], lent: &mut [u32]) -> Reply {
     wire::fill(lent);
     let kind = head.kind;
     match kind {
-        10 => encoded::read(bytes, lent),
-        18 => labelled::order(bytes, lent),
+        10 => reply::read(utf8::read_text(bytes, lent)),
+        18 => labelled::judged(sorting::order(bytes, lent)),
         _ => codes_to_codes(head, text, lent),
     }
 }
@@ -46,12 +44,12 @@ fn to_codes(head: Head, text: &[u32], bytes: &[u8], lent: &mut [u32]) -> Reply {
 fn bytes_to_bytes(head: Head, text: &[u8], lent: &mut [u8]) -> Reply {
     let kind = head.kind;
     match kind {
-        9 => named::read(text),
-        12 => encoded::mend(text, lent),
+        9 => reply::named(names::read_name(text)),
+        12 => reply::read(mending::mend(text, lent)),
         14 => ranked::encoded(text, head.first),
         15 => labelled::fresh(lent),
         16 => labelled::record(text, head.x as usize, lent),
-        17 => labelled::image(text),
+        17 => labelled::judged(labels::read_image(text)),
         _ => labelled::write(head, text, lent),
     }
 }
@@ -60,13 +58,13 @@ fn to_bytes(head: Head, text: &[u32], bytes: &[u8], lent: &mut [u8]) -> Reply {
     wire::fill_bytes(lent);
     let kind = head.kind;
     match kind {
-        8 => named::name(head.x, lent),
-        11 => encoded::write(text, lent),
+        8 => reply::filled(names::name(head.x, lent)),
+        11 => reply::filled(utf8::write_text(text, lent)),
         _ => bytes_to_bytes(head, bytes, lent),
     }
 }
 
-// What is lent is the front of the code points, or the bytes behind the answer's numbers.
+// Lends the front of the code points, or the bytes after the answer's numbers.
 fn lending_codes(head: Head, text: &[u32], bytes: &[u8], lent: &mut [u32]) -> Reply {
     let room = heads::at_most(lent.len(), head.room);
     to_codes(head, text, bytes, &mut lent[..room])
@@ -78,8 +76,8 @@ fn lending_bytes(head: Head, text: &[u32], bytes: &[u8], output: &mut [u8]) -> R
     to_bytes(head, text, bytes, &mut output[start..end])
 }
 
-// Calls with what came in, the front of the code points or of the bytes.
-pub fn answer(
+// Makes the call with what came in, the front of the code points or of the bytes.
+pub(crate) fn answer(
     head: Head,
     text: &[u32],
     bytes: &[u8],

@@ -1,11 +1,9 @@
-// calls: one door to every public call, for an independent program to drive (docs/CALLS.md). Reads
+// calls: one door to the calls of docs/CALLS.md, for an independent program to drive. Reads
 // calls on standard input and writes answers on standard output; the work is the library's.
 mod codes;
-mod encoded;
 mod heads;
 mod kinds;
 mod labelled;
-mod named;
 mod ranked;
 mod reply;
 mod wire;
@@ -14,7 +12,7 @@ use heads::Head;
 use reply::Reply;
 
 // What is read and written is at most this large: the bytes and the code points that come in, and
-// what is lent of each, which stands behind the sixteen bytes of an answer's numbers.
+// what is lent of each, after the sixteen bytes of an answer's numbers.
 const INPUT: usize = 160000;
 
 const CODES: usize = 40000;
@@ -23,7 +21,7 @@ const ROOM: usize = 120000;
 
 const OUTPUT: usize = 600016;
 
-// Reads the elements of a call: false where the input ends before, or the call is none.
+// Reads the elements of a call: false if the input ends before them, or the call is none.
 fn read_elements(head: Head, input: &mut [u8]) -> bool {
     if head.kind == 0 {
         return false;
@@ -35,8 +33,8 @@ fn read_elements(head: Head, input: &mut [u8]) -> bool {
     io::read_full(libc::STDIN_FILENO, &mut input[..size]) == size
 }
 
-// Writes the answer and then what was lent: `output` has bytes behind the answer's numbers already,
-// or gets the code points there.
+// Writes the answer and then what was lent: the bytes are in `output` after the answer's numbers
+// already, and code points are put there.
 fn write_answer(head: Head, answer: Reply, lent: &[u32], output: &mut [u8]) -> bool {
     let room = heads::at_most(lent.len(), heads::room(head));
     reply::put(answer, output);
@@ -45,10 +43,10 @@ fn write_answer(head: Head, answer: Reply, lent: &[u32], output: &mut [u8]) -> b
     io::write_all(libc::STDOUT_FILENO, &output[..end])
 }
 
-// Answers calls until the input ends, or a call is of no kind, too large, or breaks another bound of
-// its kind. A proved loop has to end, and nothing says that the input does: it counts its turns down
-// from a number that no run uses up. It stands apart from the buffers, since the check of a loop beside
-// arrays of this size takes long.
+// Answers calls until the input ends, or a call is of no kind, too large, or breaks another bound
+// of its kind. A proved loop has to end, and nothing says that the input does: this one counts its
+// turns down from a number that no run uses up. It stands apart from `main`, since the check of a
+// loop beside arrays of this size takes long.
 fn all_calls(input: &mut [u8], text: &mut [u32], lent: &mut [u32], output: &mut [u8]) {
     let mut turns = u64::MAX;
     while turns > 0 {

@@ -1,28 +1,26 @@
-// Numbers of 32 bits on the wire, low byte first. Every function takes every input: a number behind
-// the end reads as 0, and one with no room is not written. Not here: what the numbers mean.
-
+// Numbers of 32 bits on the wire, low byte first. Every function takes every input: a number after
+// the end reads as 0, and one with no room is not written.
 ghost use Prim.Native.Nat.{_<_};
 
-// A byte as a number.
-fn wide(byte: u8) -> u32
-    ensures { λ r. ⌜ r < 256 ⌝ }
+// The number of two bytes, low byte first.
+fn pair(low: u8, high: u8) -> u32
+    ensures { λ r. ⌜ r < 0x10000 ⌝ }
 {
-    byte as u32
+    low as u32 + 0x100 * high as u32
 }
 
 // The number `index`, counted in numbers.
-pub fn number(bytes: &[u8], index: usize) -> u32 {
+pub(crate) fn number(bytes: &[u8], index: usize) -> u32 {
     if bytes.len() / 4 <= index {
         return 0;
     }
     let at = 4 * index;
-    let low = wide(bytes[at]) + 0x100 * wide(bytes[at + 1]);
-    let high = wide(bytes[at + 2]) + 0x100 * wide(bytes[at + 3]);
-    low + 0x1_0000 * high
+    let low = pair(bytes[at], bytes[at + 1]);
+    low + 0x1_0000 * pair(bytes[at + 2], bytes[at + 3])
 }
 
 // Writes the number `index`.
-pub fn put_number(value: u32, index: usize, bytes: &mut [u8]) {
+pub(crate) fn put_number(value: u32, index: usize, bytes: &mut [u8]) {
     if bytes.len() / 4 <= index {
         return;
     }
@@ -34,7 +32,7 @@ pub fn put_number(value: u32, index: usize, bytes: &mut [u8]) {
 }
 
 // Reads `count` numbers, or as many as `out` has.
-pub fn numbers(bytes: &[u8], count: usize, out: &mut [u32]) {
+pub(crate) fn numbers(bytes: &[u8], count: usize, out: &mut [u32]) {
     let mut i = 0;
     while i < out.len() && i < count {
         out[i] = number(bytes, i);
@@ -42,8 +40,8 @@ pub fn numbers(bytes: &[u8], count: usize, out: &mut [u32]) {
     }
 }
 
-// Writes the numbers behind the four of the answer.
-pub fn put_numbers(values: &[u32], bytes: &mut [u8]) {
+// Writes the numbers after the four of the answer.
+pub(crate) fn put_numbers(values: &[u32], bytes: &mut [u8]) {
     let mut i = 0;
     while i < values.len() {
         put_number(values[i], i + 4, bytes);
@@ -52,7 +50,7 @@ pub fn put_numbers(values: &[u32], bytes: &mut [u8]) {
 }
 
 // Fills a lent buffer with the byte A5.
-pub fn fill(out: &mut [u32]) {
+pub(crate) fn fill(out: &mut [u32]) {
     let mut i = 0;
     while i < out.len() {
         out[i] = 0xA5A5_A5A5;
@@ -60,7 +58,7 @@ pub fn fill(out: &mut [u32]) {
     }
 }
 
-pub fn fill_bytes(out: &mut [u8]) {
+pub(crate) fn fill_bytes(out: &mut [u8]) {
     let mut i = 0;
     while i < out.len() {
         out[i] = 0xA5;
@@ -69,7 +67,7 @@ pub fn fill_bytes(out: &mut [u8]) {
 }
 
 // Copies as many bytes as `out` has, or as there are.
-pub fn copy(bytes: &[u8], out: &mut [u8]) {
+pub(crate) fn copy(bytes: &[u8], out: &mut [u8]) {
     let mut i = 0;
     while i < out.len() && i < bytes.len() {
         out[i] = bytes[i];

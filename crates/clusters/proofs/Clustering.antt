@@ -1,7 +1,8 @@
--- Laws of the look-up of clusters. In order: one test over all clusters, which antt computes, and what it says (`code-found`, `spans-of`, `code-placed`);
--- the cluster of two letters, and of three, is the code that has these letters, and there is no other (`two-listed`, `listed-two`, `three-listed`,
--- `listed-three`), and none has the code 0; what is nowhere, and what is 0, is in no cluster; the spans in which a cluster is looked for; the search.
--- Not here: the definitions (specs/Gathering, specs/Steps), the table's rule (proofs/Rule). Assumes nothing.
+-- Laws of the look-up of clusters. In order: one test over all clusters, which antt computes, for
+-- the spans in which a cluster is looked for (`spans-of`); the cluster of two letters, and of
+-- three, is the code that has these letters, and there is no other (`two-listed`, `listed-two`,
+-- `three-listed`, `listed-three`), and none has the code 0; what is nowhere, and what is 0, is in
+-- no cluster; the spans in which a cluster is looked for; the search.
 use mathlib.Core.Path.{_≡_, refl, sym, _∙_, ap}
 use mathlib.Core.Bool.{Bool, true, false, _&&_, _||_, true≢false}
 use mathlib.Core.Option.{Option, none, some}
@@ -13,22 +14,19 @@ use lib.ListN.{length, take}
 use borrow.Author.Tests.{eqb-true, eqb-false}
 use Rattle.laws.specs.Lists.{All, also}
 use Rattle.laws.specs.Ranges.{within}
-use Rattle.laws.specs.Strings.{same}
-use Rattle.laws.proofs.Bools.{test, T-true, and-left, and-right, and-T-left, and-T-right}
+use Rattle.laws.proofs.Bools.{test, T-true, and-left, and-right}
 use Rattle.laws.proofs.Lists.{all-map}
 use Rattle.laws.proofs.Ranges.{within-least, within-most}
-use Rattle.laws.proofs.Strings.{same-true, every-all}
+use Rattle.laws.proofs.Strings.{every-all}
 use Rattle.laws.proofs.Tables.{every}
-use Rattle.letters.specs.Sorts.{sortOf}
-use Rattle.clusters.specs.Table.{Cluster, two, three, modernInitials, modernPeaks, modernFinals, oldInitials, clusters, codeOf, lettersIn, lettersFrom, lettersOf, nowhere, placeOf}
-use Rattle.clusters.specs.Simple.{letterAt, isLetter}
-use Rattle.clusters.specs.Rows.{Rows, rowIn, rowAt, lettersBy}
+use Rattle.clusters.specs.Table.{Cluster, two, three, modernInitials, modernPeaks, modernFinals, oldInitials, clusters, clusterCode, lettersIn, lettersFrom, lettersOf, nowhere, placeOf}
+use Rattle.clusters.specs.Rows.{rowIn, rowBy, lettersBy}
 use Rattle.clusters.specs.Gathering.{twoIn, twoOf, threeIn, threeOf}
-use Rattle.clusters.specs.Steps.{Covers, Spans, Searched, hit, miss, orZero}
+use Rattle.clusters.specs.Inner.{Covers, Spans, Searched, hit, miss, orZero}
 use Rattle.clusters.specs.declared.table.Row.{Row}
-use Rattle.clusters.specs.declared.gathering.Span.{Span}
-use Rattle.clusters.proofs.Rule.{table-rule, letters-nonzero}
-use Rattle.clusters.proofs.Rows.{by-two, by-three, row-of, letters-by}
+use Rattle.clusters.specs.declared.gather.Span.{Span}
+use Rattle.clusters.proofs.Rule.{all-found, letters-placed, letters-distinct, letters-nonzero}
+use Rattle.clusters.proofs.Rows.{by-two, by-three, letters-by}
 
 -- ---- one test over all clusters
 
@@ -42,37 +40,17 @@ secondIn (three k a b c) = b
 
 -- its code and its first two letters are from lo to hi
 unfoldable allIn : ℕ → ℕ → Cluster → Bool
-allIn lo hi k = within lo hi (codeOf k) && (within lo hi (firstIn k) && within lo hi (secondIn k))
+allIn lo hi k = within lo hi (clusterCode k) && (within lo hi (firstIn k) && within lo hi (secondIn k))
 
 -- and so they are in one of the three spans
 unfoldable spanned : Cluster → Bool
 spanned k = allIn 0x1100 0x1159 k || (allIn 0x1161 0x1175 k || allIn 0x11A8 0x11C2 k)
-
--- its code has its letters, and a place
-unfoldable placed : Cluster → Bool
-placed k = same (lettersOf (codeOf k)) (lettersIn k) && isLetter (codeOf k)
-
-all-placed : T (every (λ n k. placed k) 0 clusters)
-unfolding placed lettersOf clusters modernInitials modernPeaks modernFinals oldInitials sortOf within
-all-placed = tt
 
 all-spanned : T (every (λ n k. spanned k) 0 clusters)
 unfolding spanned allIn clusters modernInitials modernPeaks modernFinals oldInitials within
 all-spanned = tt
 
 -- ---- what it says
-
-placed-at : All (λ k. T (placed k)) clusters
-placed-at = every-all placed (λ k t. t) clusters 0 all-placed
-
-module _ (k : Cluster) (t : T (placed k)) where
-  code-found : lettersOf (codeOf k) ≡ lettersIn k
-  unfolding placed
-  code-found = same-true (lettersOf (codeOf k)) (lettersIn k) (T-true _ (and-T-left (same (lettersOf (codeOf k)) (lettersIn k)) _ t))
-
-  code-placed : isLetter (codeOf k) ≡ true
-  unfolding placed
-  code-placed = T-true _ (and-T-right (same (lettersOf (codeOf k)) (lettersIn k)) (isLetter (codeOf k)) t)
 
 -- a code and two letters, all from lo to hi
 record Inside (lo hi k a b : ℕ) : Type 0 where
@@ -88,23 +66,23 @@ data Spanned (k a b : ℕ) : Type 0 where
   peaks : Inside 0x1161 0x1175 k a b → Spanned k a b
   finals : Inside 0x11A8 0x11C2 k a b → Spanned k a b
 
-all-inside : (lo hi : ℕ) (k : Cluster) → allIn lo hi k ≡ true → Inside lo hi (codeOf k) (firstIn k) (secondIn k)
+all-inside : (lo hi : ℕ) (k : Cluster) → allIn lo hi k ≡ true → Inside lo hi (clusterCode k) (firstIn k) (secondIn k)
 unfolding allIn
 all-inside lo hi k e =
-    let p = and-left (within lo hi (codeOf k)) _ e in
-    let r = and-right (within lo hi (codeOf k)) _ e in
+    let p = and-left (within lo hi (clusterCode k)) _ e in
+    let r = and-right (within lo hi (clusterCode k)) _ e in
     let q = and-left (within lo hi (firstIn k)) _ r in
     let s = and-right (within lo hi (firstIn k)) (within lo hi (secondIn k)) r in
     record {
-      code-least = within-least lo hi (codeOf k) p;
-      code-most = within-most lo hi (codeOf k) p;
+      code-least = within-least lo hi (clusterCode k) p;
+      code-most = within-most lo hi (clusterCode k) p;
       first-least = within-least lo hi (firstIn k) q;
       first-most = within-most lo hi (firstIn k) q;
       second-least = within-least lo hi (secondIn k) s;
       second-most = within-most lo hi (secondIn k) s;
     }
 
-spanned-by : (k : Cluster) → T (spanned k) → Spanned (codeOf k) (firstIn k) (secondIn k)
+spanned-by : (k : Cluster) → T (spanned k) → Spanned (clusterCode k) (firstIn k) (secondIn k)
 unfolding spanned
 spanned-by k t =
     test (allIn 0x1100 0x1159 k) (λ e. initials (all-inside 0x1100 0x1159 k e))
@@ -118,16 +96,12 @@ spanned-at = every-all spanned (λ k t. t) clusters 0 all-spanned
 -- ---- a code with two letters or more is a cluster's: what holds of every cluster of the list holds of it
 
 module _ (P : ℕ → List ℕ → Type 0) {c a b : ℕ} {x : List ℕ} where
-  listed-in : (cs : List Cluster) → All (λ k. P (codeOf k) (lettersIn k)) cs → lettersFrom cs c ≡ a ∷ b ∷ x → P c (a ∷ b ∷ x)
+  listed-in : (cs : List Cluster) → All (λ k. P (clusterCode k) (lettersIn k)) cs → lettersFrom cs c ≡ a ∷ b ∷ x → P c (a ∷ b ∷ x)
   listed-in [] p e = absurd (omega (arith, ap length e))
   listed-in (k ∷ cs) (also p ps) e =
-      test (eqb (codeOf k) c) (λ q. rw (← (eqb-true (codeOf k) c q), ← (simp q at e)) p) (λ q. listed-in cs ps (simp q at e))
+      test (eqb (clusterCode k) c) (λ q. rw (← (eqb-true (clusterCode k) c q), ← (simp q at e)) p) (λ q. listed-in cs ps (simp q at e))
 
 module _ (c : ℕ) {a b : ℕ} {x : List ℕ} (e : lettersOf c ≡ a ∷ b ∷ x) where
-  placed-code : isLetter c ≡ true
-  unfolding lettersOf
-  placed-code = listed-in (λ k y. isLetter k ≡ true) clusters (all-map code-placed placed-at) e
-
   spans-of : Spanned c a b
   unfolding lettersOf
   spans-of = listed-in (λ k y. First k y) clusters (all-map (λ k t. first k (spanned-by k t)) spanned-at) e
@@ -137,7 +111,7 @@ module _ (c : ℕ) {a b : ℕ} {x : List ℕ} (e : lettersOf c ≡ a ∷ b ∷ x
       First k (l ∷ []) = ⊥
       First k (l ∷ m ∷ y) = Spanned k l m
 
-      first : (k : Cluster) → Spanned (codeOf k) (firstIn k) (secondIn k) → First (codeOf k) (lettersIn k)
+      first : (k : Cluster) → Spanned (clusterCode k) (firstIn k) (secondIn k) → First (clusterCode k) (lettersIn k)
       first (two k l m) s = s
       first (three k l m n) s = s
 
@@ -179,13 +153,13 @@ none-unless none h = refl
 none-unless (some k) h = absurd (h k refl)
 
 module _ (a b : ℕ) where
-  two-in : (cs : List Cluster) → All (λ k. T (placed k)) cs → (c : ℕ) → twoIn cs a b ≡ some c → lettersOf c ≡ a ∷ b ∷ []
+  two-in : (cs : List Cluster) → All (λ k. lettersOf (clusterCode k) ≡ lettersIn k) cs → (c : ℕ) → twoIn cs a b ≡ some c → lettersOf c ≡ a ∷ b ∷ []
   two-in [] p c e = absurd (no-some e)
   two-in (two k x y ∷ cs) (also p ps) c e =
       test (eqb x a && eqb y b)
       (λ q.
       rw (← (some-same (simp q at e)), ← (eqb-true x a (and-left (eqb x a) (eqb y b) q)), ← (eqb-true y b (and-right (eqb x a) (eqb y b) q)))
-      (code-found (two k x y) p))
+      p)
       (λ q. two-in cs ps c (simp q at e))
   two-in (three k x y z ∷ cs) (also p ps) c e = two-in cs ps c e
 
@@ -206,7 +180,7 @@ module _ (a b : ℕ) where
 
   pub two-listed : (c : ℕ) → twoOf a b ≡ some c → lettersOf c ≡ a ∷ b ∷ []
   unfolding twoOf
-  two-listed c e = two-in clusters placed-at c e
+  two-listed c e = two-in clusters all-found c e
 
   pub listed-two : (c : ℕ) → lettersOf c ≡ a ∷ b ∷ [] → twoOf a b ≡ some c
   unfolding twoOf lettersOf
@@ -214,10 +188,10 @@ module _ (a b : ℕ) where
     where
       by : (o : Option ℕ) → twoOf a b ≡ o → twoOf a b ≡ some c
       by none n = absurd (two-missed clusters c e n)
-      by (some k) n = n ∙ ap some (table-rule .distinct k c (two-listed k n ∙ sym e))
+      by (some k) n = n ∙ ap some (letters-distinct k c (two-listed k n ∙ sym e))
 
 module _ (a b d : ℕ) where
-  three-in : (cs : List Cluster) → All (λ k. T (placed k)) cs → (c : ℕ) → threeIn cs a b d ≡ some c → lettersOf c ≡ a ∷ b ∷ d ∷ []
+  three-in : (cs : List Cluster) → All (λ k. lettersOf (clusterCode k) ≡ lettersIn k) cs → (c : ℕ) → threeIn cs a b d ≡ some c → lettersOf c ≡ a ∷ b ∷ d ∷ []
   three-in [] p c e = absurd (no-some e)
   three-in (two k x y ∷ cs) (also p ps) c e = three-in cs ps c e
   three-in (three k x y z ∷ cs) (also p ps) c e =
@@ -229,7 +203,7 @@ module _ (a b d : ℕ) where
         ← (eqb-true x a (and-left (eqb x a) (eqb y b && eqb z d) q)),
         ← (eqb-true y b (and-left (eqb y b) (eqb z d) r)),
         ← (eqb-true z d (and-right (eqb y b) (eqb z d) r)),
-      ) (code-found (three k x y z) p))
+      ) p)
       (λ q. three-in cs ps c (simp q at e))
 
   three-missed : (cs : List Cluster) (c : ℕ) → lettersFrom cs c ≡ a ∷ b ∷ d ∷ [] → threeIn cs a b d ≡ none → ⊥
@@ -250,7 +224,7 @@ module _ (a b d : ℕ) where
 
   pub three-listed : (c : ℕ) → threeOf a b d ≡ some c → lettersOf c ≡ a ∷ b ∷ d ∷ []
   unfolding threeOf
-  three-listed c e = three-in clusters placed-at c e
+  three-listed c e = three-in clusters all-found c e
 
   pub listed-three : (c : ℕ) → lettersOf c ≡ a ∷ b ∷ d ∷ [] → threeOf a b d ≡ some c
   unfolding threeOf lettersOf
@@ -258,15 +232,14 @@ module _ (a b d : ℕ) where
     where
       by : (o : Option ℕ) → threeOf a b d ≡ o → threeOf a b d ≡ some c
       by none n = absurd (three-missed clusters c e n)
-      by (some k) n = n ∙ ap some (table-rule .distinct k c (three-listed k n ∙ sym e))
+      by (some k) n = n ∙ ap some (letters-distinct k c (three-listed k n ∙ sym e))
 
 -- ---- what is in no cluster
 
 -- every letter of a cluster has a place, and is not 0
 module _ (c : ℕ) {a b : ℕ} {x : List ℕ} (e : lettersOf c ≡ a ∷ b ∷ x) where
   pub listed-placed : All (λ l. placeOf l ≡ nowhere → ⊥) (a ∷ b ∷ x)
-  listed-placed =
-      rw e at (all-map {Q = λ l. placeOf l ≡ nowhere → ⊥} (λ l p n. true≢false (sym (placed-code c e) ∙ ap letterAt (sym p ∙ n))) (table-rule .one-place c))
+  listed-placed = rw e at (letters-placed c (omega (arith, ap length e)))
 
   pub listed-nonzero : All (λ l. l ≡ 0 → ⊥) (a ∷ b ∷ x)
   listed-nonzero = rw e at (letters-nonzero c (λ z. omega (arith, listed-least c e)))
@@ -394,53 +367,51 @@ row-itself x =
     )
 
 -- no code from low on, before n, has the row
-abbrev pub Missed : List ℕ → Row → ℕ → ℕ → Type 0
-Missed table row low n = (k : ℕ) → low ≤ k → k < n → rowAt table k ≡ row → ⊥
+abbrev pub Missed : Row → ℕ → ℕ → Type 0
+Missed row low n = (k : ℕ) → low ≤ k → k < n → rowBy k ≡ row → ⊥
 
-module _ (table : List ℕ) (row : Row) (low c : ℕ) where
-  pub missed-none : low ≡ c → Missed table row low c
+module _ (row : Row) (low c : ℕ) where
+  pub missed-none : low ≡ c → Missed row low c
   missed-none e k l h = absurd (omega arith)
 
   -- the row at c was read, and compared
-  module _ {read : Row} {answer : Bool} (is : read ≡ rowAt table c) (compared : answer ≡ sameRow read row) where
-    pub missed-more : answer ≡ false → Missed table row low c → Missed table row low (c + 1)
+  module _ {read : Row} {answer : Bool} (is : read ≡ rowBy c) (compared : answer ≡ sameRow read row) where
+    pub missed-more : answer ≡ false → Missed row low c → Missed row low (c + 1)
     missed-more n m k l h =
-        test (eqb k c) (λ e q. true≢false (sym (row-itself row) ∙ ap (λ (x : Row). sameRow x row) (sym (is ∙ ap (rowAt table) (sym (eqb-true k c e)) ∙ q)) ∙ sym compared ∙ n))
+        test (eqb k c) (λ e q. true≢false (sym (row-itself row) ∙ ap (λ (x : Row). sameRow x row) (sym (is ∙ ap rowBy (sym (eqb-true k c e)) ∙ q)) ∙ sym compared ∙ n))
         (λ e. m k l (let d = eqb-false k c e in omega arith))
 
-    pub searched-hit : (high : ℕ) → answer ≡ true → Searched table row low high c
+    pub searched-hit : (high : ℕ) → answer ≡ true → Searched row low high c
     searched-hit high t = hit (sym is ∙ same-row read row (sym compared ∙ t))
 
-  pub searched-miss : (high : ℕ) → high ≤ c → Missed table row low c → Searched table row low high 0
+  pub searched-miss : (high : ℕ) → high ≤ c → Missed row low c → Searched row low high 0
   searched-miss high h m = miss refl (λ k l g. m k l (omega arith))
 
 -- a code with two letters or more has their row, and one that has their row has them
-module _ {table : List ℕ} (rows : Rows table) {a b : ℕ} {x : List ℕ} {row : Row} (by : lettersBy row ≡ a ∷ b ∷ x)
-    (padded : rowIn (take 3 ((a ∷ b ∷ x) ++ (0 ∷ 0 ∷ []))) ≡ row) where
-  row-letters : (c : ℕ) → rowAt table c ≡ row → lettersOf c ≡ a ∷ b ∷ x
-  row-letters c e = sym (letters-by rows c) ∙ ap lettersBy e ∙ by
+module _ {a b : ℕ} {x : List ℕ} {row : Row} (by : lettersBy row ≡ a ∷ b ∷ x) (padded : rowIn (take 3 ((a ∷ b ∷ x) ++ (0 ∷ 0 ∷ []))) ≡ row) where
+  row-letters : (c : ℕ) → rowBy c ≡ row → lettersOf c ≡ a ∷ b ∷ x
+  row-letters c e = sym (letters-by c) ∙ ap lettersBy e ∙ by
 
-  letters-row : (c : ℕ) → lettersOf c ≡ a ∷ b ∷ x → rowAt table c ≡ row
-  letters-row c e =
-      row-of rows c (listed-least c e) (listed-most c e) ∙ ap (λ (l : List ℕ). rowIn (take 3 (l ++ (0 ∷ 0 ∷ [])))) e ∙ padded
+  letters-row : (c : ℕ) → lettersOf c ≡ a ∷ b ∷ x → rowBy c ≡ row
+  unfolding rowBy
+  letters-row c e = ap (λ (l : List ℕ). rowIn (take 3 (l ++ (0 ∷ 0 ∷ [])))) e ∙ padded
 
 -- THE SEARCH FINDS THE CLUSTER of two letters, and of three
-module _ {table : List ℕ} {a b r : ℕ} {span : Span} (spans : Spans a b span) (second : b ≡ 0 → ⊥) where
-  pub two-found : Searched table (record { first = a; second = b; third = 0 }) (span .low) (span .high) r → Rows table → r ≡ orZero (twoOf a b)
-  two-found (hit e) rows = sym (ap orZero (listed-two a b r (row-letters rows (by-two _ second refl) refl r e)))
-  two-found (miss z m) rows = z ∙ sym (ap orZero (none-unless (twoOf a b) none-there))
+module _ {a b r : ℕ} {span : Span} (spans : Spans a b span) (second : b ≡ 0 → ⊥) where
+  pub two-found : Searched (record { first = a; second = b; third = 0 }) (span .low) (span .high) r → r ≡ orZero (twoOf a b)
+  two-found (hit e) = sym (ap orZero (listed-two a b r (row-letters (by-two _ second refl) refl r e)))
+  two-found (miss z m) = z ∙ sym (ap orZero (none-unless (twoOf a b) none-there))
     where
       none-there : (k : ℕ) → twoOf a b ≡ some k → ⊥
       none-there k e =
           let l = two-listed a b k e in
-          m k (spans .low-code k _ l) (spans .high-code k _ l) (letters-row rows (by-two _ second refl) refl k l)
+          m k (spans .low-code k _ l) (spans .high-code k _ l) (letters-row (by-two _ second refl) refl k l)
 
-  pub three-found : {d : ℕ} → (d ≡ 0 → ⊥) → Searched table (record { first = a; second = b; third = d }) (span .low) (span .high) r → Rows table
-      → r ≡ orZero (threeOf a b d)
-  three-found {d} third (hit e) rows = sym (ap orZero (listed-three a b d r (row-letters rows (by-three _ second third) refl r e)))
-  three-found {d} third (miss z m) rows = z ∙ sym (ap orZero (none-unless (threeOf a b d) none-there))
+  pub three-found : {d : ℕ} → (d ≡ 0 → ⊥) → Searched (record { first = a; second = b; third = d }) (span .low) (span .high) r → r ≡ orZero (threeOf a b d)
+  three-found {d} third (hit e) = sym (ap orZero (listed-three a b d r (row-letters (by-three _ second third) refl r e)))
+  three-found {d} third (miss z m) = z ∙ sym (ap orZero (none-unless (threeOf a b d) none-there))
     where
       none-there : (k : ℕ) → threeOf a b d ≡ some k → ⊥
       none-there k e =
           let l = three-listed a b d k e in
-          m k (spans .low-code k _ l) (spans .high-code k _ l) (letters-row rows (by-three _ second third) refl k l)
+          m k (spans .low-code k _ l) (spans .high-code k _ l) (letters-row (by-three _ second third) refl k l)

@@ -1,8 +1,9 @@
--- Laws of gathered form. In order: a text and its clusters fall into the same groups (`groups`), so that they are no longer and have the same simple form;
--- A GATHERED TEXT HAS THE SIMPLE FORM IT CAME FROM (`simple-gathered`), gathering it again changes nothing, and two texts gather to the same exactly where
--- their simple forms are the same; how long it is (`gathered-most`); a code that has no place is a place to cut (`clustered-cut`); the machine that
--- gathers letter by letter gives the same (`from-gatherer`, `gathered-coded`); cases of document 01.
--- Not here: the look-up of a cluster (proofs/Clustering), the code's steps (proofs/Stepping). Assumes nothing.
+-- Laws of gathered form. In order: a text and its clusters fall into the same groups (`groups`), so
+-- that they are no longer and have the same simple form; A GATHERED TEXT HAS THE SIMPLE FORM IT
+-- CAME FROM (`simple-gathered`), gathering it again changes nothing, and two texts gather to the
+-- same exactly where their simple forms are the same; how long it is (`gathered-most`); a code that
+-- has no place is a place to cut (`clustered-cut`); the machine that gathers letter by letter gives
+-- the same (`from-gatherer`, `gathered-coded`); cases of document 01.
 use mathlib.Core.Path.{_≡_, refl, sym, _∙_, ap}
 use mathlib.Core.Option.{Option, none, some}
 use mathlib.Core.List.{List, [], _∷_, _++_}
@@ -16,21 +17,20 @@ use Rattle.laws.proofs.Lists.{each-one, each-alone}
 use Rattle.laws.proofs.Machines.{from-behind, from-fed}
 use Rattle.letters.specs.Sorts.{sortOf}
 use Rattle.letters.specs.Syllables.{isSyllable, oneStep, partsTo}
-use Rattle.letters.specs.declared.step.Parts.the-variants.{One as OnePart}
 use Rattle.letters.proofs.Steps.{step-other, syllable-below}
-use Rattle.letters.proofs.Parts.{Closed}
+use Rattle.letters.proofs.FullParts.{Closed}
 use Rattle.joining.specs.Roles.{roleOf, pair}
 use Rattle.joining.specs.Joining.{join, joiner, opens}
 use Rattle.joining.specs.declared.joiner.Open.the-variants.{Nothing as NothingOpen}
 use Rattle.joining.proofs.Joins.{join-most}
 use Rattle.clusters.specs.Table.{modernInitials, modernPeaks, modernFinals, oldInitials, clusters, lettersOf, nowhere, placeOf}
-use Rattle.clusters.specs.Simple.{simple, simpleTo}
+use Rattle.clusters.specs.Simple.{simple, simpleOf}
 use Rattle.clusters.specs.Gathering.{twoOf, threeOf, longest, clustered, gathered}
-use Rattle.clusters.specs.Steps.{undecided, gatherer, gathering, coded}
-use Rattle.clusters.specs.declared.gathering.Pending.{Pending}
-use Rattle.clusters.specs.declared.gathering.Pending.the-variants.{Nothing, One, Two}
-use Rattle.clusters.proofs.Rule.{table-rule, letters-all}
-use Rattle.clusters.proofs.SimpleForm.{simple-one, simple-each, simple-append, simple-most, simple-simple, simple-of-joined, closed-parts}
+use Rattle.clusters.specs.Inner.{undecided, gatherer, gathering, coded}
+use Rattle.clusters.specs.declared.gather.Pending.{Pending}
+use Rattle.clusters.specs.declared.gather.Pending.the-variants.{Nothing, One, Two}
+use Rattle.clusters.proofs.Rule.{letters-alone, letters-all}
+use Rattle.clusters.proofs.SimpleForm.{simple-itself, simple-each, simple-append, simple-most, simple-simple, simple-of-joined, closed-parts}
 use Rattle.clusters.proofs.Clustering.{listed-most, two-listed, three-listed, two-nowhere, second-nowhere, third-nowhere}
 
 -- ---- the groups: a letter that stays, two that are a cluster, or three
@@ -85,14 +85,14 @@ module _ (k : ℕ) {a b : ℕ} {x : List ℕ} (e : lettersOf k ≡ a ∷ b ∷ x
   closed-cluster = low-closed k (listed-most k e)
 
   simple-cluster : simple (k ∷ []) ≡ a ∷ b ∷ x
-  simple-cluster = simple-each (k ∷ []) ∙ each-one (simpleTo 2) k ∙ simple-one 2 k {p = OnePart k} (sym closed-cluster) refl ∙ e
+  simple-cluster = simple-each (k ∷ []) ∙ each-one simpleOf k ∙ simple-itself k closed-cluster ∙ e
 
   simple-letters : simple (a ∷ b ∷ x) ≡ a ∷ b ∷ x
   unfolding simple
   simple-letters =
       rw e at (
       ap (each lettersOf) (closed-parts (letters-all Closed (λ l h g. low-closed l (omega arith)) k closed-cluster))
-      ∙ each-alone lettersOf (table-rule .alone k)
+      ∙ each-alone lettersOf (letters-alone k)
       )
 
   simple-group : (y z : List ℕ) → simple y ≡ simple z → simple (k ∷ y) ≡ simple ((a ∷ b ∷ x) ++ z)
@@ -189,7 +189,7 @@ from-gatherer (c ∷ x) (Two a b) = decided-from a b c x (from-gatherer x) (thre
 pub gathered-coded : (text : List ℕ) → from coded (Nothing, NothingOpen) text ≡ gathered text
 unfolding gathered
 gathered-coded text =
-    from-fed (simpleTo 2) gathering text (Nothing, NothingOpen) ∙ ap (from gathering (Nothing, NothingOpen)) (sym (simple-each text))
+    from-fed simpleOf gathering text (Nothing, NothingOpen) ∙ ap (from gathering (Nothing, NothingOpen)) (sym (simple-each text))
     ∙ from-behind gatherer joiner (simple text) Nothing NothingOpen ∙ ap join (from-gatherer (simple text) Nothing)
 
 -- ---- cases of document 01: three letters before two; going on behind a cluster; case 7 and case 8; longer than the text given

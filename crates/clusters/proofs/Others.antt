@@ -1,7 +1,7 @@
--- Other scripts pass through (document 01, its first paragraph): a text with no syllable and no initial, peak or final is its own simple form and its own gathered
--- form. In order: such a code point (`Foreign`), which is alone (`letters-foreign`) and joins with nothing before it; SIMPLE FORM (`simple-others`); GATHERED
--- FORM (`clustered-others`, `gathered-others`).
--- Not here: that full parts, joining and filler groups leave such a text (crate letters, `full-none`; joining, `join-none`; fillers, `turned-none`). Assumes nothing.
+-- Other scripts pass through (document 01, its first paragraph): a text with no syllable and no
+-- initial, peak or final is its own simple form and its own gathered form. In order: such a code
+-- point (`Foreign`), which is alone (`letters-foreign`) and joins with nothing before it; SIMPLE
+-- FORM (`simple-others`); GATHERED FORM (`clustered-others`, `gathered-others`).
 use mathlib.Core.Path.{_≡_, refl, sym, _∙_, ap}
 use mathlib.Core.Bool.{true, false, true≢false}
 use mathlib.Core.List.{List, [], _∷_}
@@ -14,15 +14,14 @@ use Rattle.letters.specs.Sorts.{sortOf}
 use Rattle.letters.specs.Syllables.{isSyllable}
 use Rattle.letters.specs.declared.sort.Sort.{Sort}
 use Rattle.letters.proofs.Sorts.{sort-between}
-use Rattle.letters.proofs.Parts.{full-none}
+use Rattle.letters.proofs.FullParts.{full-none}
 use Rattle.joining.specs.Roles.{Hard}
 use Rattle.joining.proofs.Roles.{peak-range, final-range}
 use Rattle.joining.proofs.Joins.{join-none}
 use Rattle.clusters.specs.Table.{lettersOf, nowhere, placeAs, placeOf}
 use Rattle.clusters.specs.Simple.{letterAt, simple}
 use Rattle.clusters.specs.Gathering.{clustered, gathered}
-use Rattle.clusters.proofs.Rule.{table-rule, letters-least}
-use Rattle.clusters.proofs.Clustering.{listed-placed}
+use Rattle.clusters.proofs.Rule.{letters-one-place, letters-placed, letters-least, one-letter}
 use Rattle.clusters.proofs.GatheredForm.{cut-one}
 
 -- no syllable, and no initial, peak or final; a filler is one too
@@ -31,15 +30,15 @@ Foreign c = (isSyllable c ≡ false) × (placeOf c ≡ nowhere)
 
 -- what has no place is in no cluster, and has its own row
 letters-foreign : (c : ℕ) → placeOf c ≡ nowhere → lettersOf c ≡ c ∷ []
-letters-foreign c n = by (lettersOf c) refl (table-rule .alone c)
+letters-foreign c n = by (lettersOf c) refl
   where
     first : {a b : ℕ} {x : List ℕ} → All (λ l. placeOf l ≡ placeOf c) (a ∷ b ∷ x) → All (λ l. placeOf l ≡ nowhere → ⊥) (a ∷ b ∷ x) → ⊥
     first (also p q) (also r s) = r (p ∙ n)
 
-    by : (x : List ℕ) → lettersOf c ≡ x → All (λ l. lettersOf l ≡ l ∷ []) x → lettersOf c ≡ c ∷ []
-    by [] e h = absurd (omega (arith, letters-least c, ap length e))
-    by (a ∷ []) e (also h none) = e ∙ ap (λ l. l ∷ []) (sym (table-rule .distinct c a (e ∙ sym h)))
-    by (a ∷ b ∷ x) e h = absurd (first (rw e at (table-rule .one-place c)) (listed-placed c e))
+    by : (x : List ℕ) → lettersOf c ≡ x → lettersOf c ≡ c ∷ []
+    by [] e = absurd (omega (arith, letters-least c, ap length e))
+    by (a ∷ []) e = e ∙ ap (λ l. l ∷ []) (one-letter c e)
+    by (a ∷ b ∷ x) e = absurd (first (rw e at (letters-one-place c)) (rw e at (letters-placed c (omega (arith, ap length e)))))
 
 -- it joins with nothing before it: a modern peak, and a modern final, has a place
 hard-foreign : (c : ℕ) → placeOf c ≡ nowhere → Hard c

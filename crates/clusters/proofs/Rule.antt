@@ -1,12 +1,12 @@
--- The table's rule, proved once over the whole list of clusters: one test that antt computes (`right`), one lemma that turns it into what holds of every
--- number's letters (`by-letters`). In order: the test and what it says of a cluster; a code is alone or a cluster's (`letters-listed`, `letters-unlisted`),
--- and the lemma; THE RULE (`table-rule`); how many letters, outside the table, and good ones; the clusters counted, and rows of document 01 as worked
--- examples.
--- Not here: the table as the code has it (proofs/Rows). Assumes nothing.
+-- The table's rule. In order: ONE TEST over the 256 rows, which antt computes (`ruled`); ONE LEMMA,
+-- from the test to the rule at each row (`rule-at`), and so THE RULE (`table-rule`). Then the list
+-- of clusters, which gathering searches, held to the rows (`agrees`), and what holds of the letters
+-- of every number (`by-letters`): how many they are, outside the table, good ones, and the rule
+-- once more. Last the clusters counted, and rows of document 01 as worked examples.
 use mathlib.Core.Path.{_≡_, refl, sym, _∙_, ap}
 use mathlib.Core.Bool.{Bool, true, false, cond, _&&_, _||_, true≢false}
 use mathlib.Core.List.{List, [], _∷_, map}
-use Prim.Native.Nat.{ℕ, suc, _≤_, _<_}
+use Prim.Native.Nat.{ℕ, zero, suc, _+_, _-_, _≤_, _<_}
 use native.Mathlib.Omega.{arith}
 use lib.Dec.{T, eqb, leb}
 use lib.ListN.{length, getD, length-map, List·getD-map}
@@ -14,7 +14,7 @@ use borrow.Author.Tests.{eqb-true, leb-true}
 use Rattle.laws.specs.Lists.{All, none, also, count}
 use Rattle.laws.specs.Ranges.{within}
 use Rattle.laws.specs.Strings.{same}
-use Rattle.laws.proofs.Bools.{T-true, and-T-left, and-T-right}
+use Rattle.laws.proofs.Bools.{test, T-true, and-T-left, and-T-right}
 use Rattle.laws.proofs.Lists.{all-map}
 use Rattle.laws.proofs.Ranges.{within-least, within-most}
 use Rattle.laws.proofs.Strings.{same-true, every-all, packed}
@@ -24,7 +24,8 @@ use Rattle.answers.proofs.Checks.{good-low}
 use Rattle.letters.specs.Sorts.{sortOf, hasSort}
 use Rattle.letters.specs.declared.sort.Sort.{Sort}
 use Rattle.letters.specs.declared.sort.Sort.the-variants.{ModernInitial, OldInitial, ModernPeak, OldPeak, ModernFinal, OldFinal}
-use Rattle.clusters.specs.Table.{Cluster, two, three, modernInitials, modernPeaks, modernFinals, oldInitials, clusters, codeOf, lettersIn, lettersFrom, lettersOf, rowOf, Place, initial, peak, final, nowhere, placeOf, Rule}
+use Rattle.clusters.specs.Table.{Cluster, two, three, modernInitials, modernPeaks, modernFinals, oldInitials, clusters, clusterCode, lettersIn, lettersFrom, lettersOf, clusterRow, Place, initial, peak, final, nowhere, placeOf, Rule, TableRule}
+use Rattle.clusters.specs.Simple.{isLetter}
 
 -- ---- the test
 
@@ -47,160 +48,187 @@ numbered-place nowhere = refl
 same-place : (p q : Place) → eqb (placeNumber p) (placeNumber q) ≡ true → p ≡ q
 same-place p q e = sym (numbered-place p) ∙ ap numbered (eqb-true (placeNumber p) (placeNumber q) e) ∙ numbered-place q
 
+-- a code is alone in its row
+unfoldable lone : ℕ → Bool
+lone c = same (lettersOf c) (c ∷ [])
+
+-- a letter in the row of c has the place of c, and is alone in its own row
+unfoldable rightLetter : ℕ → ℕ → Bool
+rightLetter c l = eqb (placeNumber (placeOf l)) (placeNumber (placeOf c)) && lone l
+
+-- the row of c: c is alone in it, or has a place; and its letters are right
+unfoldable rightRow : ℕ → Bool
+rightRow c = (lone c || isLetter c) && every (λ n l. rightLetter c l) 0 (lettersOf c)
+
+-- n numbers from lo on
+unfoldable run : ℕ → ℕ → List ℕ
+run lo zero = []
+run lo (suc n) = lo ∷ run (suc lo) n
+
+-- the codes of the table, 1100 to 11FF
+abbrev codes : List ℕ
+codes = run 0x1100 256
+
+-- the row of a code as one number
+unfoldable packedRow : ℕ → ℕ
+packedRow c = packed (clusterRow c)
+
+-- THE TEST of the table: each of its 256 rows is right, and no two of them are equal
+unfoldable ruled : Bool
+ruled = every (λ n c. rightRow c) 0 codes && distinct (map packedRow codes)
+
+holds : T ruled
+unfolding ruled rightRow rightLetter lone run packedRow lettersOf clusters modernInitials modernPeaks modernFinals oldInitials sortOf within
+holds = tt
+
+-- ---- from the test to the rule at each row
+
+lone-letters : (c : ℕ) → lone c ≡ true → lettersOf c ≡ c ∷ []
+unfolding lone
+lone-letters c e = same-true (lettersOf c) (c ∷ []) e
+
+module _ (c l : ℕ) (t : T (rightLetter c l)) where
+  right-place : placeOf l ≡ placeOf c
+  unfolding rightLetter
+  right-place = same-place (placeOf l) (placeOf c) (T-true _ (and-T-left (eqb (placeNumber (placeOf l)) (placeNumber (placeOf c))) (lone l) t))
+
+  right-alone : lettersOf l ≡ l ∷ []
+  unfolding rightLetter
+  right-alone = lone-letters l (T-true _ (and-T-right (eqb (placeNumber (placeOf l)) (placeNumber (placeOf c))) (lone l) t))
+
+module _ (c : ℕ) (t : T (rightRow c)) where
+  right-letters : All (λ l. T (rightLetter c l)) (lettersOf c)
+  unfolding rightRow
+  right-letters = every-all (rightLetter c) (λ l h. h) (lettersOf c) 0 (and-T-right (lone c || isLetter c) _ t)
+
+  alone-or-placed : T (lone c || isLetter c)
+  unfolding rightRow
+  alone-or-placed = and-T-left (lone c || isLetter c) _ t
+
+  cluster-placed : 1 < length (lettersOf c) → placeOf c ≡ nowhere → ⊥
+  cluster-placed h n = test (lone c) (λ e. omega (arith, ap length (lone-letters c e))) (λ e. rw (e, n) at alone-or-placed)
+
+length-run : (n lo : ℕ) → length (run lo n) ≡ n
+unfolding run
+length-run zero lo = refl
+length-run (suc n) lo = ap suc (length-run n (suc lo))
+
+run-at : (n lo k : ℕ) → k < n → getD (run lo n) k 0 ≡ lo + k
+unfolding run
+run-at zero lo k h = absurd (omega arith)
+run-at (suc n) lo zero h = omega arith
+run-at (suc n) lo (suc k) h = let e : suc lo + k ≡ lo + suc k = omega arith in run-at n (suc lo) k (omega arith) ∙ e
+
+no-row : packedRow 0 ≡ 0
+unfolding packedRow lettersOf clusters modernInitials modernPeaks modernFinals oldInitials
+no-row = refl
+
+-- a code of the table stands among the codes
+module _ (c : ℕ) (l : 0x1100 ≤ c) (h : c ≤ 0x11FF) where
+  code-in : c - 0x1100 < length codes
+  code-in = rw length-run (omega arith)
+
+  code-at : getD codes (c - 0x1100) 0 ≡ c
+  code-at = let e : 0x1100 + (c - 0x1100) ≡ c = omega arith in run-at 256 0x1100 (c - 0x1100) (omega arith) ∙ e
+
+  packed-in : c - 0x1100 < length (map packedRow codes)
+  packed-in = rw length-map code-in
+
+  packed-at : getD (map packedRow codes) (c - 0x1100) 0 ≡ packedRow c
+  packed-at = (rw no-row at (List·getD-map packedRow codes (c - 0x1100) 0)) ∙ ap packedRow code-at
+
+-- THE LEMMA: the test gives the rule at each row
+module _ (t : T ruled) where
+  row-right : (c : ℕ) → 0x1100 ≤ c → c ≤ 0x11FF → T (rightRow c)
+  unfolding ruled
+  row-right c l h =
+      rw (code-at c l h)
+      at (every-at (λ n c. rightRow c) 0 codes (and-T-left (every (λ n c. rightRow c) 0 codes) (distinct (map packedRow codes)) t) (c - 0x1100) (code-in c l h))
+
+  row-apart : (c d : ℕ) → 0x1100 ≤ c → c ≤ 0x11FF → 0x1100 ≤ d → d ≤ 0x11FF → packedRow c ≡ packedRow d → c ≡ d
+  unfolding ruled
+  row-apart c d l h m g e =
+      let apart = and-T-right (every (λ n c. rightRow c) 0 codes) (distinct (map packedRow codes)) t in
+      let index =
+      distinct-at (map packedRow codes) (c - 0x1100) (d - 0x1100) apart (packed-in c l h) (packed-in d m g) (packed-at c l h ∙ e ∙ sym (packed-at d m g))
+      in
+      omega (arith, index)
+
+  rule-at : TableRule
+  unfolding packedRow
+  rule-at c l h =
+      let right = row-right c l h in
+      record {
+        placed = λ several. all-map (λ x t n. cluster-placed c right several (sym (right-place c x t) ∙ n)) (right-letters c right);
+        one-place = all-map (right-place c) (right-letters c right);
+        alone = all-map (right-alone c) (right-letters c right);
+        distinct = λ d m g e. row-apart c d l h m g (ap packed e);
+      }
+
+-- THE RULE OF THE TABLE
+pub table-rule : TableRule
+table-rule = rule-at holds
+
+-- ---- the list of clusters, which gathering searches, has the letters of the rows
+
 -- the most letters that a code may have: modern initials and modern finals two, all others three
 abbrev mostOf : ℕ → ℕ
 mostOf c = cond (hasSort ModernInitial c || hasSort ModernFinal c) 2 3
 
--- a letter has the place p, is in the table, and its own row is that letter alone
-unfoldable rightLetter : Place → ℕ → Bool
-rightLetter p l = eqb (placeNumber (placeOf l)) (placeNumber p) && (within 0x1100 0x11FF l && same (lettersOf l) (l ∷ []))
+-- a cluster's row has its letters; they are few enough; all are numbers of the table
+unfoldable agrees : Cluster → Bool
+agrees k =
+    (within 0x1100 0x11FF (clusterCode k) && same (lettersOf (clusterCode k)) (lettersIn k))
+    && (leb (length (lettersIn k)) (mostOf (clusterCode k)) && every (λ n l. within 0x1100 0x11FF l) 0 (lettersIn k))
 
--- THE TEST of a cluster: its code is in the table and has its letters, which are few enough, and each of them right
-unfoldable right : Cluster → Bool
-right k =
-    (within 0x1100 0x11FF (codeOf k) && same (lettersOf (codeOf k)) (lettersIn k))
-    && (leb (length (lettersIn k)) (mostOf (codeOf k)) && every (λ n l. rightLetter (placeOf (codeOf k)) l) 0 (lettersIn k))
+list-agrees : T (every (λ n k. agrees k) 0 clusters)
+unfolding agrees lettersOf clusters modernInitials modernPeaks modernFinals oldInitials sortOf within
+list-agrees = tt
 
-all-right : T (every (λ n k. right k) 0 clusters)
-unfolding right rightLetter lettersOf clusters modernInitials modernPeaks modernFinals oldInitials sortOf within
-all-right = tt
+all-agree : All (λ k. T (agrees k)) clusters
+all-agree = every-all agrees (λ k t. t) clusters 0 list-agrees
 
--- what the test says of a cluster
-module _ (k : Cluster) (t : T (right k)) where
-  of-code : T (within 0x1100 0x11FF (codeOf k) && same (lettersOf (codeOf k)) (lettersIn k))
-  unfolding right
-  of-code = and-T-left (within 0x1100 0x11FF (codeOf k) && same (lettersOf (codeOf k)) (lettersIn k)) _ t
+module _ (k : Cluster) (t : T (agrees k)) where
+  of-code : T (within 0x1100 0x11FF (clusterCode k) && same (lettersOf (clusterCode k)) (lettersIn k))
+  unfolding agrees
+  of-code = and-T-left (within 0x1100 0x11FF (clusterCode k) && same (lettersOf (clusterCode k)) (lettersIn k)) _ t
 
-  of-letters : T (leb (length (lettersIn k)) (mostOf (codeOf k)) && every (λ n l. rightLetter (placeOf (codeOf k)) l) 0 (lettersIn k))
-  unfolding right
-  of-letters = and-T-right (within 0x1100 0x11FF (codeOf k) && same (lettersOf (codeOf k)) (lettersIn k)) _ t
+  of-letters : T (leb (length (lettersIn k)) (mostOf (clusterCode k)) && every (λ n l. within 0x1100 0x11FF l) 0 (lettersIn k))
+  unfolding agrees
+  of-letters = and-T-right (within 0x1100 0x11FF (clusterCode k) && same (lettersOf (clusterCode k)) (lettersIn k)) _ t
 
-  inside : within 0x1100 0x11FF (codeOf k) ≡ true
-  inside = T-true _ (and-T-left (within 0x1100 0x11FF (codeOf k)) _ of-code)
+  inside : within 0x1100 0x11FF (clusterCode k) ≡ true
+  inside = T-true _ (and-T-left (within 0x1100 0x11FF (clusterCode k)) _ of-code)
 
-  found : lettersOf (codeOf k) ≡ lettersIn k
-  found = same-true _ _ (T-true _ (and-T-right (within 0x1100 0x11FF (codeOf k)) _ of-code))
+  found : lettersOf (clusterCode k) ≡ lettersIn k
+  found = same-true _ _ (T-true _ (and-T-right (within 0x1100 0x11FF (clusterCode k)) _ of-code))
 
-  few : length (lettersIn k) ≤ mostOf (codeOf k)
-  few = leb-true _ _ (T-true _ (and-T-left (leb (length (lettersIn k)) (mostOf (codeOf k))) _ of-letters))
+  few : length (lettersIn k) ≤ mostOf (clusterCode k)
+  few = leb-true _ _ (T-true _ (and-T-left (leb (length (lettersIn k)) (mostOf (clusterCode k))) _ of-letters))
 
-  each-right : All (λ l. T (rightLetter (placeOf (codeOf k)) l)) (lettersIn k)
-  each-right =
-      every-all (rightLetter (placeOf (codeOf k))) (λ l h. h) (lettersIn k) 0
-      (and-T-right (leb (length (lettersIn k)) (mostOf (codeOf k))) _ of-letters)
+  letters-inside : All (λ l. within 0x1100 0x11FF l ≡ true) (lettersIn k)
+  letters-inside =
+      every-all (within 0x1100 0x11FF) (λ l h. T-true _ h) (lettersIn k) 0 (and-T-right (leb (length (lettersIn k)) (mostOf (clusterCode k))) _ of-letters)
 
--- and of a letter
-module _ (p : Place) (l : ℕ) (t : T (rightLetter p l)) where
-  right-place : placeOf l ≡ p
-  unfolding rightLetter
-  right-place = same-place (placeOf l) p (T-true _ (and-T-left (eqb (placeNumber (placeOf l)) (placeNumber p)) _ t))
+-- so the code of every cluster of the list has its letters
+pub all-found : All (λ k. lettersOf (clusterCode k) ≡ lettersIn k) clusters
+all-found = all-map found all-agree
 
-  right-rest : T (within 0x1100 0x11FF l && same (lettersOf l) (l ∷ []))
-  unfolding rightLetter
-  right-rest = and-T-right (eqb (placeNumber (placeOf l)) (placeNumber p)) _ t
+-- ---- what holds of a code that is alone, and of every cluster, holds of the letters of every number
 
-  right-inside : within 0x1100 0x11FF l ≡ true
-  right-inside = T-true _ (and-T-left (within 0x1100 0x11FF l) _ right-rest)
+module _ (P : ℕ → List ℕ → Type 0) (itself : (c : ℕ) → P c (c ∷ [])) where
+  by-list : (cs : List Cluster) → All (λ k. P (clusterCode k) (lettersIn k)) cs → (c : ℕ) → P c (lettersFrom cs c)
+  by-list [] ps c = itself c
+  by-list (k ∷ cs) (also p ps) c = test (eqb (clusterCode k) c) (λ e. simp e (rw (eqb-true (clusterCode k) c e) at p)) (λ e. simp e (by-list cs ps c))
 
-  right-alone : lettersOf l ≡ l ∷ []
-  right-alone = same-true (lettersOf l) (l ∷ []) (T-true _ (and-T-right (within 0x1100 0x11FF l) _ right-rest))
-
--- ---- a code is alone, or the code of one cluster
-
--- stands behind the last cluster
-abbrev pub beyond : Cluster
-beyond = two 0 0 0
-
-data Looked (cs : List Cluster) (c : ℕ) : Type 0 where
-  single : lettersFrom cs c ≡ c ∷ [] → Looked cs c
-  listed : (i : ℕ) → i < length cs → codeOf (getD cs i beyond) ≡ c → lettersFrom cs c ≡ lettersIn (getD cs i beyond) → Looked cs c
-
-looked : (cs : List Cluster) (c : ℕ) → Looked cs c
-looked [] c = single refl
-looked (k ∷ cs) c = by (eqb (codeOf k) c) refl (looked cs c)
-  where
-    by : (b : Bool) → eqb (codeOf k) c ≡ b → Looked cs c → Looked (k ∷ cs) c
-    by true e r = listed 0 (omega arith) (eqb-true (codeOf k) c e) (simp e)
-    by false e (single r) = single (simp e r)
-    by false e (listed i h q r) = listed (suc i) (omega arith) q (simp e r)
-
-right-at : (i : ℕ) → i < length clusters → T (right (getD clusters i beyond))
-right-at i h = every-at (λ n k. right k) beyond clusters all-right i h
-
--- a cluster's code has its letters, and a code that is no cluster's is alone
-pub letters-listed : (i : ℕ) → i < length clusters → lettersOf (codeOf (getD clusters i beyond)) ≡ lettersIn (getD clusters i beyond)
-letters-listed i h = found (getD clusters i beyond) (right-at i h)
-
-pub letters-unlisted : (c : ℕ) → ((i : ℕ) → i < length clusters → codeOf (getD clusters i beyond) ≡ c → ⊥) → lettersOf c ≡ c ∷ []
-unfolding lettersOf
-letters-unlisted c n = by (looked clusters c)
-  where
-    by : Looked clusters c → lettersFrom clusters c ≡ c ∷ []
-    by (single e) = e
-    by (listed i h q e) = absurd (n i h q)
-
--- THE LEMMA: what holds where a code is alone, and of every cluster that passes the test, holds of the letters of every number
-by-letters : (P : ℕ → List ℕ → Type 0) → ((c : ℕ) → lettersOf c ≡ c ∷ [] → P c (c ∷ [])) → ((k : Cluster) → T (right k) → P (codeOf k) (lettersIn k))
-    → (c : ℕ) → P c (lettersOf c)
-unfolding lettersOf
-by-letters P itself cluster c = by (looked clusters c)
-  where
-    by : Looked clusters c → P c (lettersFrom clusters c)
-    by (single e) = rw e (itself c e)
-    by (listed i h q e) = rw (e, ← q) (cluster (getD clusters i beyond) (right-at i h))
-
--- ---- THE RULE
-
-one-place : (c : ℕ) → All (λ l. placeOf l ≡ placeOf c) (lettersOf c)
-one-place =
-    by-letters (λ c x. All (λ l. placeOf l ≡ placeOf c) x) (λ c e. also refl none) (λ k t. all-map (right-place (placeOf (codeOf k))) (each-right k t))
-
-alone : (c : ℕ) → All (λ l. lettersOf l ≡ l ∷ []) (lettersOf c)
-alone =
-    by-letters (λ c x. All (λ l. lettersOf l ≡ l ∷ []) x) (λ c e. also e none) (λ k t. all-map (right-alone (placeOf (codeOf k))) (each-right k t))
-
--- no two clusters have the same f, where f gives them numbers that are distinct
-module _ (f : Cluster → ℕ) (nothing : f beyond ≡ 0) (apart : T (distinct (map f clusters))) (i j : ℕ) (hi : i < length clusters) (hj : j < length clusters) where
-  at : (n : ℕ) → getD (map f clusters) n 0 ≡ f (getD clusters n beyond)
-  at n = rw nothing at (List·getD-map f clusters n beyond)
-
-  same-index : f (getD clusters i beyond) ≡ f (getD clusters j beyond) → i ≡ j
-  same-index e =
-      distinct-at (map f clusters) i j apart (rw (length-map clusters f) hi) (rw (length-map clusters f) hj) (at i ∙ e ∙ sym (at j))
-
-module _ (i j : ℕ) (hi : i < length clusters) (hj : j < length clusters) where
-  -- no two clusters have the same letters, nor one code
-  pub letters-apart : lettersIn (getD clusters i beyond) ≡ lettersIn (getD clusters j beyond) → i ≡ j
-  unfolding clusters modernInitials modernPeaks modernFinals oldInitials
-  letters-apart e = same-index (λ k. packed (lettersIn k)) refl tt i j hi hj (ap packed e)
-
-  pub codes-apart : codeOf (getD clusters i beyond) ≡ codeOf (getD clusters j beyond) → i ≡ j
-  unfolding clusters modernInitials modernPeaks modernFinals oldInitials
-  codes-apart e = same-index codeOf refl tt i j hi hj e
-
-several : (k : Cluster) {c : ℕ} → c ∷ [] ≡ lettersIn k → ⊥
-several (two k a b) e = omega (arith, ap length e)
-several (three k a b c) e = omega (arith, ap length e)
-
-no-two-equal : (c d : ℕ) → lettersOf c ≡ lettersOf d → c ≡ d
-unfolding lettersOf
-no-two-equal c d e = by (looked clusters c) (looked clusters d)
-  where
-    by : Looked clusters c → Looked clusters d → c ≡ d
-    by (single p) (single q) = cc
-    by (single p) (listed j hj q s) = absurd (several (getD clusters j beyond) (sym p ∙ e ∙ s))
-    by (listed i hi p r) (single q) = absurd (several (getD clusters i beyond) (sym q ∙ sym e ∙ r))
-    by (listed i hi p r) (listed j hj q s) =
-        sym p ∙ ap (λ (n : ℕ). codeOf (getD clusters n beyond)) (letters-apart i j hi hj (sym r ∙ e ∙ s)) ∙ q
-
--- THE RULE OF THE TABLE
-pub table-rule : Rule
-table-rule = record { one-place = one-place; alone = alone; distinct = no-two-equal }
+  by-letters : ((k : Cluster) → T (agrees k) → P (clusterCode k) (lettersIn k)) → (c : ℕ) → P c (lettersOf c)
+  unfolding lettersOf
+  by-letters cluster c = by-list clusters (all-map cluster all-agree) c
 
 -- ---- how many letters a code has
 
 pub letters-least : (c : ℕ) → 1 ≤ length (lettersOf c)
-letters-least = by-letters (λ c x. 1 ≤ length x) (λ c e. omega arith) (λ k t. one k)
+letters-least = by-letters (λ c x. 1 ≤ length x) (λ c. omega arith) (λ k t. one k)
   where
     one : (k : Cluster) → 1 ≤ length (lettersIn k)
     one (two k a b) = omega arith
@@ -215,7 +243,7 @@ three-or-fewer true = omega arith
 three-or-fewer false = omega arith
 
 letters-few : (c : ℕ) → length (lettersOf c) ≤ mostOf c
-letters-few = by-letters (λ c x. length x ≤ mostOf c) (λ c e. one-or-more (hasSort ModernInitial c || hasSort ModernFinal c)) few
+letters-few = by-letters (λ c x. length x ≤ mostOf c) (λ c. one-or-more (hasSort ModernInitial c || hasSort ModernFinal c)) few
 
 pub letters-most : (c : ℕ) → length (lettersOf c) ≤ 3
 letters-most c = omega (arith, letters-few c, three-or-fewer (hasSort ModernInitial c || hasSort ModernFinal c))
@@ -231,13 +259,11 @@ final-most c e = simp e at (letters-few c)
 
 pub letters-outside : (c : ℕ) → within 0x1100 0x11FF c ≡ false → lettersOf c ≡ c ∷ []
 letters-outside =
-    by-letters (λ c x. within 0x1100 0x11FF c ≡ false → x ≡ c ∷ []) (λ c e h. refl)
-    (λ k t h. absurd (true≢false (sym (inside k t) ∙ h)))
+    by-letters (λ c x. within 0x1100 0x11FF c ≡ false → x ≡ c ∷ []) (λ c h. refl) (λ k t h. absurd (true≢false (sym (inside k t) ∙ h)))
 
 -- what holds of every number of the table, and of a code, holds of the code's letters
 pub letters-all : (P : ℕ → Type 0) → ((l : ℕ) → 0x1100 ≤ l → l ≤ 0x11FF → P l) → (c : ℕ) → P c → All P (lettersOf c)
-letters-all P low =
-    by-letters (λ c x. P c → All P x) (λ c e p. also p none) (λ k t p. all-map (λ l h. by l (right-inside (placeOf (codeOf k)) l h)) (each-right k t))
+letters-all P low = by-letters (λ c x. P c → All P x) (λ c p. also p none) (λ k t p. all-map by (letters-inside k t))
   where
     by : (l : ℕ) → within 0x1100 0x11FF l ≡ true → P l
     by l e = low l (within-least 0x1100 0x11FF l e) (within-most 0x1100 0x11FF l e)
@@ -248,6 +274,45 @@ letters-good = letters-all (λ l. bad l ≡ false) (λ l h k. good-low l (omega 
 -- none is 0, so that 0 can stand for no letter
 pub letters-nonzero : (c : ℕ) → (c ≡ 0 → ⊥) → All (λ l. l ≡ 0 → ⊥) (lettersOf c)
 letters-nonzero = letters-all (λ l. l ≡ 0 → ⊥) (λ l h k e. omega arith)
+
+-- a code with one letter is that letter
+pub one-letter : (c : ℕ) {a : ℕ} → lettersOf c ≡ a ∷ [] → a ≡ c
+one-letter c {a} = by-letters (λ c x. x ≡ a ∷ [] → a ≡ c) (λ c e. cc) (λ k t e. absurd (several k e)) c
+  where
+    several : (k : Cluster) → lettersIn k ≡ a ∷ [] → ⊥
+    several (two k x y) e = omega (arith, ap length e)
+    several (three k x y z) e = omega (arith, ap length e)
+
+-- ---- the rule of every number: one outside the table is alone
+
+module _ {G : Type 0} (c : ℕ) where
+  -- by cases: the rule, or alone
+  ruled-or-alone : (Rule c → G) → (lettersOf c ≡ c ∷ [] → G) → G
+  ruled-or-alone rule alone =
+      test (within 0x1100 0x11FF c) (λ e. rule (table-rule c (within-least 0x1100 0x11FF c e) (within-most 0x1100 0x11FF c e)))
+      (λ e. alone (letters-outside c e))
+
+pub letters-alone : (c : ℕ) → All (λ l. lettersOf l ≡ l ∷ []) (lettersOf c)
+letters-alone c = ruled-or-alone c (λ r. r .alone) (λ e. rw e (also e none))
+
+pub letters-placed : (c : ℕ) → 1 < length (lettersOf c) → All (λ l. placeOf l ≡ nowhere → ⊥) (lettersOf c)
+letters-placed c h = ruled-or-alone c (λ r. r .placed h) (λ e. absurd (omega (arith, ap length e)))
+
+pub letters-one-place : (c : ℕ) → All (λ l. placeOf l ≡ placeOf c) (lettersOf c)
+letters-one-place c = ruled-or-alone c (λ r. r .one-place) (λ e. rw e (also refl none))
+
+pub letters-distinct : (c d : ℕ) → lettersOf c ≡ lettersOf d → c ≡ d
+letters-distinct c d e =
+    test (within 0x1100 0x11FF c)
+    (λ p.
+    test (within 0x1100 0x11FF d) (λ q. listed p q)
+    (λ q. sym (one-letter c (e ∙ letters-outside d q))))
+    (λ p. one-letter d (sym e ∙ letters-outside c p))
+  where
+    listed : within 0x1100 0x11FF c ≡ true → within 0x1100 0x11FF d ≡ true → c ≡ d
+    listed p q =
+        table-rule c (within-least 0x1100 0x11FF c p) (within-most 0x1100 0x11FF c p) .distinct d (within-least 0x1100 0x11FF d q)
+        (within-most 0x1100 0x11FF d q) (rw e)
 
 -- ---- the clusters counted, by their lists and by the sorts of their codes
 
@@ -266,30 +331,30 @@ sorts-counted = (refl, refl, refl, refl, refl, refl)
 
 -- ---- rows of document 01: its corrections, and clusters of three
 
-pub row-1140 : rowOf 0x1140 ≡ 0x1140 ∷ 0 ∷ 0 ∷ []
+pub row-1140 : clusterRow 0x1140 ≡ 0x1140 ∷ 0 ∷ 0 ∷ []
 unfolding lettersOf clusters modernInitials modernPeaks modernFinals oldInitials
 row-1140 = refl
 
-pub row-1153 : rowOf 0x1153 ≡ 0x110E ∷ 0x1112 ∷ 0 ∷ []
+pub row-1153 : clusterRow 0x1153 ≡ 0x110E ∷ 0x1112 ∷ 0 ∷ []
 unfolding lettersOf clusters modernInitials modernPeaks modernFinals oldInitials
 row-1153 = refl
 
-pub row-116A : rowOf 0x116A ≡ 0x1169 ∷ 0x1161 ∷ 0 ∷ []
+pub row-116A : clusterRow 0x116A ≡ 0x1169 ∷ 0x1161 ∷ 0 ∷ []
 unfolding lettersOf clusters modernInitials modernPeaks modernFinals oldInitials
 row-116A = refl
 
-pub row-116B : rowOf 0x116B ≡ 0x1169 ∷ 0x1161 ∷ 0x1175 ∷ []
+pub row-116B : clusterRow 0x116B ≡ 0x1169 ∷ 0x1161 ∷ 0x1175 ∷ []
 unfolding lettersOf clusters modernInitials modernPeaks modernFinals oldInitials
 row-116B = refl
 
-pub row-11B6 : rowOf 0x11B6 ≡ 0x11AF ∷ 0x11C2 ∷ 0 ∷ []
+pub row-11B6 : clusterRow 0x11B6 ≡ 0x11AF ∷ 0x11C2 ∷ 0 ∷ []
 unfolding lettersOf clusters modernInitials modernPeaks modernFinals oldInitials
 row-11B6 = refl
 
-pub row-1146 : rowOf 0x1146 ≡ 0x110B ∷ 0x1140 ∷ 0 ∷ []
+pub row-1146 : clusterRow 0x1146 ≡ 0x110B ∷ 0x1140 ∷ 0 ∷ []
 unfolding lettersOf clusters modernInitials modernPeaks modernFinals oldInitials
 row-1146 = refl
 
-pub row-1122 : rowOf 0x1122 ≡ 0x1107 ∷ 0x1109 ∷ 0x1100 ∷ []
+pub row-1122 : clusterRow 0x1122 ≡ 0x1107 ∷ 0x1109 ∷ 0x1100 ∷ []
 unfolding lettersOf clusters modernInitials modernPeaks modernFinals oldInitials
 row-1122 = refl

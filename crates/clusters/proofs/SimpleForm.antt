@@ -1,7 +1,7 @@
--- Laws of simple form. In order: of one code point down to a depth, which is what a function that calls itself asks; how long it is of one code point; of a
--- text, code point by code point, its length, and what a loop over a text asks; nothing changes any more in a simple form, and it is the same of a text, of
--- its parts and of the text joined, and so are the simple letters and the other characters (`SameCharacters`).
--- Not here: the letters of a code (proofs/Rule), full parts (crate letters). Assumes nothing.
+-- Laws of simple form. In order: of one code point, by its parts; how long it is of one code point;
+-- of a text, code point by code point, its length, and what a loop over a text asks; nothing
+-- changes any more in a simple form, and it is the same of a text, of its parts and of the text
+-- joined, and so are the simple letters and the other characters (`SameCharacters`).
 use mathlib.Core.Path.{_≡_, refl, sym, _∙_, ap}
 use mathlib.Core.Bool.{true, false}
 use mathlib.Core.List.{List, [], _∷_, _++_}
@@ -9,39 +9,68 @@ use Prim.Native.Nat.{ℕ, _+_, _-_, _*_, _≤_, _<_}
 use native.Mathlib.Omega.{arith}
 use lib.ListN.{length, getD, drop, length-append}
 use Rattle.laws.specs.Lists.{each, All}
-use Rattle.laws.proofs.Lists.{each-end, each-one, each-append, each-each, each-alone, all-map, all-each, all-each-of, length-each-least, length-each-most}
+use Rattle.laws.proofs.Lists.{each-end, each-one, each-cons, each-append, each-each, each-alone, all-map, all-each, all-each-of, length-each-least, length-each-most}
+use Rattle.laws.specs.Writing.{Room, Wrote}
 use Rattle.laws.proofs.Filling.{Piece, each-piece}
 use Rattle.answers.specs.Checks.{bad}
-use Rattle.letters.specs.Syllables.{isSyllable, initialOf, peakOf, finalOf, oneStep, partsTo, partsOf, fullParts}
-use Rattle.letters.specs.Answers.{listed}
-use Rattle.letters.specs.declared.step.Parts.{Parts}
-use Rattle.letters.specs.declared.step.Parts.the-variants.{One}
+use Rattle.letters.specs.Syllables.{isSyllable, initialOf, peakOf, finalOf, oneStep, partsOf, fullParts}
+use Rattle.letters.specs.Answers.{partsIn}
+use Rattle.letters.specs.declared.step.Parts.the-variants.{One as OnePart}
+use Rattle.letters.specs.declared.parts.Whole.{Whole}
+use Rattle.letters.specs.declared.parts.Whole.the-variants.{One, Two, Three}
 use Rattle.letters.proofs.Sorts.{sort-between}
 use Rattle.letters.proofs.Steps.{syllable-below, syllable-most, step-other, by-step}
-use Rattle.letters.proofs.Parts.{parts-one, parts-other, parts-lv, parts-lvt, Closed, full-append, full-closed, full-full, full-of-step, full-good, full-least}
+use Rattle.letters.proofs.FullParts.{parts-one, parts-other, parts-lv, parts-lvt, Closed, full-append, full-closed, full-full, full-of-step, full-good, full-least}
 use Rattle.joining.specs.Joining.{join}
 use Rattle.joining.proofs.Joins.{parts-join}
 use Rattle.clusters.specs.Table.{lettersOf}
-use Rattle.clusters.specs.Simple.{simple, simpleTo, simpleLetters, otherCharacters}
-use Rattle.clusters.proofs.Rule.{table-rule, letters-least, letters-most, initial-most, final-most, letters-all, letters-good}
+use Rattle.clusters.specs.Simple.{simple, simpleOf, simpleLetters, otherCharacters}
+use Rattle.clusters.proofs.Rule.{letters-alone, letters-least, letters-most, initial-most, final-most, letters-all, letters-good}
 
--- ---- of one code point, down to a depth
+-- ---- of one code point: it has one part, two or three
 
-simple-other : (d c : ℕ) → isSyllable c ≡ false → simpleTo d c ≡ lettersOf c
-unfolding simpleTo
-simple-other d c h = rw (parts-other d c h) (each-one lettersOf c)
+-- p is its full parts by value, as the code has them
+module _ (c : ℕ) {p : Whole} (parts : partsIn p ≡ partsOf c) where
+  pub simple-one : {a : ℕ} → p ≡ One a → simpleOf c ≡ lettersOf a
+  unfolding simpleOf
+  simple-one {a} e = rw (← parts, e) (each-one lettersOf a)
 
--- one part: p is what the code's one step answered
-pub simple-one : (d c : ℕ) {p : Parts} {a : ℕ} → listed p ≡ oneStep c → p ≡ One a → simpleTo d c ≡ lettersOf a
-unfolding simpleTo
-simple-one d c {a = a} q r = rw (parts-one d c q r) (each-one lettersOf a)
+  pub simple-two : {a b : ℕ} → p ≡ Two a b → Piece (simpleOf c) (lettersOf a) (lettersOf b)
+  unfolding simpleOf
+  simple-two {a} {b} e = record { eq = rw (← parts, e) (each-cons lettersOf a (b ∷ []) ∙ ap (λ (l : List ℕ). lettersOf a ++ l) (each-one lettersOf b)) }
+
+  pub simple-three : {a b d : ℕ} → p ≡ Three a b d → Piece (simpleOf c) (lettersOf a) (lettersOf b ++ lettersOf d)
+  unfolding simpleOf
+  simple-three {a} {b} {d} e =
+      record {
+        eq = rw (← parts, e)
+            (each-cons lettersOf a (b ∷ d ∷ [])
+            ∙ ap (λ (l : List ℕ). lettersOf a ++ l) (each-cons lettersOf b (d ∷ []) ∙ ap (λ (l : List ℕ). lettersOf b ++ l) (each-one lettersOf d)));
+      }
+
+  -- what there is room for, and what is written
+  pub room-one-part : {a : ℕ} {out : List ℕ} {at : ℕ} → p ≡ One a → Room out at (simpleOf c) → Room out at (lettersOf a)
+  room-one-part e h = rw (simple-one e) at h
+
+  pub wrote-one-part : {a : ℕ} {out out′ : List ℕ} {at r : ℕ} → p ≡ One a → Wrote out at (lettersOf a) r out′ → Wrote out at (simpleOf c) r out′
+  wrote-one-part e w = rw (simple-one e) w
+
+pub two-rows : (a b : ℕ) → Piece (lettersOf a ++ lettersOf b) (lettersOf a) (lettersOf b)
+two-rows a b = record { eq = refl }
+
+-- of one that is no syllable, and of one whose one step is itself
+simple-other : (c : ℕ) → isSyllable c ≡ false → simpleOf c ≡ lettersOf c
+simple-other c h = simple-one c {p = One c} (sym (parts-other 2 c h)) refl
+
+pub simple-itself : (c : ℕ) → Closed c → simpleOf c ≡ lettersOf c
+simple-itself c h = simple-one c {p = One c} (sym (parts-one 2 c {p = OnePart c} (sym h) refl)) refl
 
 -- ---- how long it is of one code point
 
 -- of a syllable at most 2, 3 and 2 letters, of any other at most 3
-pub simple-of-most : (c : ℕ) → length (simpleTo 2 c) ≤ 7
-unfolding simpleTo each
-simple-of-most c = by-step c lv lvt (λ h. rw (simple-other 2 c h) (omega (arith, letters-most c)))
+pub simple-of-most : (c : ℕ) → length (simpleOf c) ≤ 7
+unfolding simpleOf each
+simple-of-most c = by-step c lv lvt (λ h. rw (simple-other c h) (omega (arith, letters-most c)))
   where
     first : isSyllable c ≡ true → length (lettersOf (0x1100 + initialOf c)) ≤ 2
     first h =
@@ -51,17 +80,21 @@ simple-of-most c = by-step c lv lvt (λ h. rw (simple-other 2 c h) (omega (arith
     last : isSyllable c ≡ true → (finalOf c ≡ 0 → ⊥) → length (lettersOf (0x11A7 + finalOf c)) ≤ 2
     last h e = final-most (0x11A7 + finalOf c) (sym (sort-between 0x11A8 0x11C2 tt (omega arith) (omega arith)))
 
-    lv : isSyllable c ≡ true → finalOf c ≡ 0 → length (each lettersOf (partsTo 2 c)) ≤ 7
+    lv : isSyllable c ≡ true → finalOf c ≡ 0 → length (each lettersOf (partsOf c)) ≤ 7
     lv h e = rw (parts-lv 0 c h e) (simp length-append (omega (arith, first h, letters-most (0x1161 + peakOf c))))
 
-    lvt : isSyllable c ≡ true → (finalOf c ≡ 0 → ⊥) → length (each lettersOf (partsTo 2 c)) ≤ 7
+    lvt : isSyllable c ≡ true → (finalOf c ≡ 0 → ⊥) → length (each lettersOf (partsOf c)) ≤ 7
     lvt h e = rw (parts-lvt 0 c h e) (simp length-append (omega (arith, first h, letters-most (0x1161 + peakOf c), last h e)))
+
+-- so seven places have room for it
+pub simple-room : (out : List ℕ) (c : ℕ) → length out ≡ 7 → Room out 0 (simpleOf c)
+simple-room out c e = record { fits = omega (arith, simple-of-most c) }
 
 -- ---- a text's
 
 -- code point by code point
-pub simple-each : (x : List ℕ) → simple x ≡ each (simpleTo 2) x
-unfolding simple simpleTo
+pub simple-each : (x : List ℕ) → simple x ≡ each simpleOf x
+unfolding simple simpleOf
 simple-each x = each-each lettersOf partsOf x
 
 pub simple-append : (x y : List ℕ) → simple (x ++ y) ≡ simple x ++ simple y
@@ -70,7 +103,7 @@ simple-append x y = ap (each lettersOf) (full-append x y) ∙ each-append letter
 
 -- at most 7n, at least n
 pub simple-most : (x : List ℕ) → length (simple x) ≤ 7 * length x
-simple-most x = rw (simple-each x) (length-each-most (simpleTo 2) 7 simple-of-most x)
+simple-most x = rw (simple-each x) (length-each-most simpleOf 7 simple-of-most x)
 
 pub simple-least : (x : List ℕ) → length x ≤ length (simple x)
 unfolding simple
@@ -78,18 +111,18 @@ simple-least x = omega (arith, full-least x, length-each-least lettersOf letters
 
 -- what the loops over a text ask
 pub simple-piece : (text : List ℕ) (i : ℕ) → i < length text
-    → Piece (each (simpleTo 2) (drop i text)) (simpleTo 2 (getD text i 0)) (each (simpleTo 2) (drop (i + 1) text))
-simple-piece text i h = each-piece (simpleTo 2) 0 text i h
+    → Piece (each simpleOf (drop i text)) (simpleOf (getD text i 0)) (each simpleOf (drop (i + 1) text))
+simple-piece text i h = each-piece simpleOf 0 text i h
 
-pub simple-end : (text : List ℕ) (i : ℕ) → length text ≤ i → each (simpleTo 2) (drop i text) ≡ []
-simple-end text i h = each-end (simpleTo 2) text i h
+pub simple-end : (text : List ℕ) (i : ℕ) → length text ≤ i → each simpleOf (drop i text) ≡ []
+simple-end text i h = each-end simpleOf text i h
 
 -- ---- nothing changes any more
 
 -- EACH CODE OF A SIMPLE FORM IS ALONE
 pub letters-of-simple : (x : List ℕ) → All (λ l. lettersOf l ≡ l ∷ []) (simple x)
 unfolding simple
-letters-of-simple x = all-each lettersOf (table-rule .alone) (fullParts x)
+letters-of-simple x = all-each lettersOf letters-alone (fullParts x)
 
 -- and is no syllable: its one step is itself
 pub simple-closed : (x : List ℕ) → All Closed (simple x)
@@ -97,7 +130,7 @@ unfolding simple
 simple-closed x = all-each-of lettersOf (letters-all Closed (λ l h k. step-other l (syllable-below l (omega arith)))) (full-closed x)
 
 pub closed-parts : {x : List ℕ} → All Closed x → fullParts x ≡ x
-closed-parts p = each-alone partsOf (all-map (λ c h. parts-one 2 c {p = One c} (sym h) refl) p)
+closed-parts p = each-alone partsOf (all-map (λ c h. parts-one 2 c {p = OnePart c} (sym h) refl) p)
 
 pub simple-simple : (x : List ℕ) → simple (simple x) ≡ simple x
 unfolding simple
@@ -116,7 +149,8 @@ pub simple-of-joined : (x : List ℕ) → simple (join x) ≡ simple x
 unfolding simple
 simple-of-joined x = ap (each lettersOf) (parts-join x)
 
--- so the simple letters and the other characters, and their numbers, are the same before and after each
+-- so the simple letters and the other characters, and their numbers, are the same before and after
+-- each
 pub record SameCharacters (x y : List ℕ) : Type 0 where
   pub letters : simpleLetters x ≡ simpleLetters y
   pub others : otherCharacters x ≡ otherCharacters y

@@ -1,6 +1,6 @@
--- Gathered form: document 01, 'Simple letters and clusters': the simple form; then, from the left and going on behind each cluster, the longest run of
--- three, else two, letters that some row lists becomes that cluster; then joining. Not here: simple form (specs/Simple), joining (crate joining).
--- Assumes nothing.
+-- Gathered form: document 01, 'Simple letters and clusters': the simple form; then, from the left
+-- and going on behind each cluster, the longest run of three, else two, letters that some row lists
+-- becomes that cluster; then joining.
 use mathlib.Core.Bool.{cond, _&&_}
 use mathlib.Core.Option.{Option, none, some}
 use mathlib.Core.List.{List, [], _∷_}
@@ -28,7 +28,8 @@ threeIn (three k x y z ∷ ks) a b c = cond (eqb x a && (eqb y b && eqb z c)) (s
 unfoldable pub threeOf : ℕ → ℕ → ℕ → Option ℕ
 threeOf a b c = threeIn clusters a b c
 
--- three before two before the letter alone; what follows is what stands behind three letters, behind two, behind one
+-- three before two before the letter alone; what follows is what stands behind three letters,
+-- behind two, behind one
 abbrev pub longest : Option ℕ → Option ℕ → ℕ → List ℕ → List ℕ → List ℕ → List ℕ
 longest (some k) pair a behindThree behindTwo behindOne = k ∷ behindThree
 longest none (some k) a behindThree behindTwo behindOne = k ∷ behindTwo

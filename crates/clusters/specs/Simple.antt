@@ -1,19 +1,19 @@
--- Simple form: document 01, 'Simple letters and clusters': full parts, then each code replaced by its letters. And the simple letters of a text, and its
--- other characters. Not here: the letters of a code (specs/Table), full parts (crate letters). Assumes nothing.
+-- Simple form: document 01, 'Simple letters and clusters': full parts, then each code replaced by
+-- its letters. And the simple letters of a text, and its other characters.
 use mathlib.Core.Bool.{Bool, true, false, cond, not}
 use mathlib.Core.List.{List, [], _∷_}
 use Prim.Native.Nat.{ℕ}
 use Rattle.laws.specs.Lists.{each}
-use Rattle.letters.specs.Syllables.{partsTo, fullParts}
+use Rattle.letters.specs.Syllables.{partsOf, fullParts}
 use Rattle.clusters.specs.Table.{Place, initial, peak, final, nowhere, placeOf, lettersOf}
 
 -- SIMPLE FORM
 unfoldable pub simple : List ℕ → List ℕ
 simple text = each lettersOf (fullParts text)
 
--- of one code point, taken apart down to a depth
-unfoldable pub simpleTo : ℕ → ℕ → List ℕ
-simpleTo depth c = each lettersOf (partsTo depth c)
+-- of one code point
+unfoldable pub simpleOf : ℕ → List ℕ
+simpleOf c = each lettersOf (partsOf c)
 
 -- a simple letter: an initial, a peak or a final, fillers not among them
 abbrev pub letterAt : Place → Bool

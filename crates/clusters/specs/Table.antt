@@ -1,11 +1,11 @@
--- The clusters: document 01, 'Simple letters and clusters': each with its two or three letters, which its character name gives; the letters of a code
--- point, and 01's row of three numbers. Not here: the sorts of letters (crate letters). Assumes nothing.
+-- The clusters: document 01, 'Simple letters and clusters': each with its two or three letters,
+-- which its character name gives; the letters of a code point, and 01's row of three numbers.
 use mathlib.Core.Path.{_≡_}
 use mathlib.Core.Bool.{cond}
 use mathlib.Core.List.{List, [], _∷_, _++_}
-use Prim.Native.Nat.{ℕ}
+use Prim.Native.Nat.{ℕ, _≤_, _<_}
 use lib.Dec.{eqb}
-use lib.ListN.{take}
+use lib.ListN.{length, take}
 use Rattle.laws.specs.Lists.{All}
 use Rattle.letters.specs.Sorts.{sortOf}
 use Rattle.letters.specs.declared.sort.Sort.{Sort}
@@ -55,9 +55,9 @@ oldInitials =
 unfoldable pub clusters : List Cluster
 clusters = modernInitials ++ (modernPeaks ++ (modernFinals ++ oldInitials))
 
-abbrev pub codeOf : Cluster → ℕ
-codeOf (two k a b) = k
-codeOf (three k a b c) = k
+abbrev pub clusterCode : Cluster → ℕ
+clusterCode (two k a b) = k
+clusterCode (three k a b c) = k
 
 abbrev pub lettersIn : Cluster → List ℕ
 lettersIn (two k a b) = a ∷ b ∷ []
@@ -66,14 +66,14 @@ lettersIn (three k a b c) = a ∷ b ∷ c ∷ []
 -- the letters of a code point: a cluster's, or itself
 abbrev pub lettersFrom : List Cluster → ℕ → List ℕ
 lettersFrom [] c = c ∷ []
-lettersFrom (k ∷ ks) c = cond (eqb (codeOf k) c) (lettersIn k) (lettersFrom ks c)
+lettersFrom (k ∷ ks) c = cond (eqb (clusterCode k) c) (lettersIn k) (lettersFrom ks c)
 
 unfoldable pub lettersOf : ℕ → List ℕ
 lettersOf c = lettersFrom clusters c
 
 -- 01's row of three numbers, with a 0 where there are fewer letters
-abbrev pub rowOf : ℕ → List ℕ
-rowOf c = take 3 (lettersOf c ++ (0 ∷ 0 ∷ []))
+abbrev pub clusterRow : ℕ → List ℕ
+clusterRow c = take 3 (lettersOf c ++ (0 ∷ 0 ∷ []))
 
 -- ---- the rule
 
@@ -100,8 +100,15 @@ placeAs Other = nowhere
 abbrev pub placeOf : ℕ → Place
 placeOf c = placeAs (sortOf c)
 
--- THE RULE of the table: a row's letters are of one place, the code's own; each letter's own row is that letter alone; no two rows are equal
-pub record Rule : Type 0 where
-  pub one-place : (c : ℕ) → All (λ l. placeOf l ≡ placeOf c) (lettersOf c)
-  pub alone : (c : ℕ) → All (λ l. lettersOf l ≡ l ∷ []) (lettersOf c)
-  pub distinct : (c d : ℕ) → lettersOf c ≡ lettersOf d → c ≡ d
+-- THE RULE of a row of the table: the letters of a cluster's row are of one place (initial, peak,
+-- final), the cluster's own; each letter's own row is that letter alone; no other row is equal to
+-- it
+pub record Rule (c : ℕ) : Type 0 where
+  pub placed : 1 < length (lettersOf c) → All (λ l. placeOf l ≡ nowhere → ⊥) (lettersOf c)
+  pub one-place : All (λ l. placeOf l ≡ placeOf c) (lettersOf c)
+  pub alone : All (λ l. lettersOf l ≡ l ∷ []) (lettersOf c)
+  pub distinct : (d : ℕ) → 0x1100 ≤ d → d ≤ 0x11FF → clusterRow c ≡ clusterRow d → c ≡ d
+
+-- of every row
+abbrev pub TableRule : Type 0
+TableRule = (c : ℕ) → 0x1100 ≤ c → c ≤ 0x11FF → Rule c

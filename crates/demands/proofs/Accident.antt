@@ -1,16 +1,16 @@
--- The accident cannot happen again: a name in finished syllables and in single letters is one boat, and two boats are never taken for one.
--- Not here: why (crate mending, proofs/Same; crate normal, proofs/Repertoire). Assumes nothing.
+-- The accident cannot happen again: a name in finished syllables and in single letters is one boat,
+-- and two boats are never taken for one.
 use mathlib.Core.Path.{_≡_, sym, _∙_, ap}
 use mathlib.Core.Logic.{_↔_}
 use mathlib.Core.List.{List}
 use Prim.Native.Nat.{ℕ}
 use Rattle.letters.specs.Syllables.{fullParts}
-use Rattle.letters.proofs.Parts.{full-full, full-good}
+use Rattle.letters.proofs.FullParts.{full-full, full-good}
 use Rattle.joining.proofs.Joins.{same-join, same-parts}
 use Rattle.normal.specs.Forms.{nfd}
 use Rattle.normal.proofs.Repertoire.{equivalent-joined, nfd-of-parts}
 use Rattle.utf8.specs.Utf8.{readText}
-use Rattle.utf8_round.proofs.Round.{read-write}
+use Rattle.utf8.proofs.Round.{read-write}
 use Rattle.mending.proofs.Same.{same-call}
 use Rattle.demands.specs.Accident.{Mended, OneBoat, SameBoat, TwoBoats}
 

@@ -1,9 +1,10 @@
--- The general laws behind demand 1: a call that answers by its checks in order, and leaves its buffer by them, keeps the demand; and the demand leaves it
--- no choice. Not here: the calls (crate demands_calls), each check by itself (crate answers, proofs/Checks).
+-- The general laws behind demand 1: a call that answers by its checks in order, and leaves its
+-- buffer by them, keeps the demand; and the demand leaves it no choice.
 --
--- In order: what is left by a check (`kept`, `after-kept`); FROM THE CONTRACT TO THE DEMAND (`demanded`): of a call that
--- is lent nothing (`answered`, `answered-one`), that refuses nothing (`answers-done`), that fills a lent buffer (`filled-demanded`, `filled-alone`);
--- THE DEMAND ADMITS ONE RESULT (`results-same`, `results-one`). Assumes nothing.
+-- In order: what is left by a check (`kept`, `after-kept`); FROM THE CONTRACT TO THE DEMAND
+-- (`demanded`): of a call that is lent nothing (`answered`, `answered-one`), that fills a lent
+-- buffer (`filled-demanded`, `filled-alone`); THE DEMAND ADMITS ONE RESULT (`results-same`,
+-- `results-one`).
 use mathlib.Core.Path.{_≡_, refl, sym, _∙_}
 use mathlib.Core.List.{List, [], _∷_, _++_}
 use Prim.Native.Nat.{ℕ}
@@ -13,7 +14,7 @@ use Rattle.answers.specs.Checks.{Check, passes, refuses, inOrder, noRoom}
 use Rattle.answers.specs.Verdicts.{Verdict, verdict, after, fits, Fills}
 use Rattle.answers.proofs.Verdicts.{done-not-refused}
 use Rattle.answers.proofs.Orders.{order-one, order-flat}
-use Rattle.demands.specs.Demand1.{Demand1, Answers}
+use Rattle.demands.specs.Demand1.{Demand1}
 
 -- ---- what is left by a check: the buffer filled where it passes, and as it was where it refuses
 
@@ -60,10 +61,6 @@ module _ {Value : Type 0} {value : Value} {answer : Verdict Value} where
   -- by one check alone
   pub answered-one : {check : Check} → answer ≡ verdict check value → Demand1 {A = ℕ} (check ∷ []) value [] [] answer []
   answered-one {check} q = answered (check ∷ []) (sym (order-one check)) q
-
--- of a function that refuses nothing
-pub answers-done : {Value : Type 0} {value r : Value} → r ≡ value → Answers value r
-answers-done e = demanded [] (rw e) refl
 
 -- of a call that fills a lent buffer; `checks` are those that precede 3
 module _ {Value A : Type 0} {value : Value} {whole out : List A} {answer : Verdict Value} {out′ : List A} where

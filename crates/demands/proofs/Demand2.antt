@@ -1,5 +1,4 @@
 -- Demand 2: what a call that is done wrote is what the Standard defines, and what undoes what.
--- Not here: that the definitions are the Standard's (crates letters, normal, utf8, names). Assumes nothing.
 use mathlib.Core.Path.{_≡_, sym, _∙_, ap}
 use mathlib.Core.List.{List, [], _∷_}
 use Prim.Native.Nat.{ℕ, _+_}
@@ -9,13 +8,14 @@ use Rattle.laws.specs.Pieces.{pieces}
 use Rattle.answers.specs.Checks.{Check, passes, refuses, badCodePoint}
 use Rattle.answers.specs.Verdicts.{done, verdict}
 use Rattle.answers.specs.Answers.{Makes}
-use Rattle.answers.specs.declared.Filled.the-variants.{Done}
+use Rattle.answers.specs.declared.answer.Filled.the-variants.{Done}
 use Rattle.answers.proofs.Verdicts.{done-not-refused, fills-done, fills-front}
 use Rattle.letters.proofs.Steps.{index-made}
 use Rattle.letters.proofs.Chapter3.{step-mapping, full-decomposition}
 use Rattle.joining.proofs.Calls.{parts-call}
-use Rattle.normal.proofs.Conjoining.{nfc-join}
-use Rattle.normal.proofs.Repertoire.{joined-is-nfc}
+use Rattle.normal.specs.Forms.{nfd}
+use Rattle.normal.proofs.Conjoining.{nfd-parts, nfc-join}
+use Rattle.normal.proofs.Repertoire.{parts-are-nfd, joined-equivalent, joined-is-nfc}
 use Rattle.utf8.specs.Table37.{kindOf}
 use Rattle.utf8.specs.Utf8.{readText}
 use Rattle.utf8.proofs.Reading.{reading8, reading8-unique}
@@ -41,11 +41,20 @@ one-step-is code parts e = answer-is (badCodePoint (code ∷ [])) e ∙ step-map
 pub taking-apart : demand.TakingApart
 taking-apart text out out′ n h = made _ h ∙ full-decomposition text
 
+pub parts-nfd : demand.PartsNfd
+parts-nfd text out out′ n h = made _ h ∙ sym (nfd-parts text)
+
+pub parts-nfd-ucd : demand.PartsNfdUcd
+parts-nfd-ucd ucd u text out out′ n all h = made _ h ∙ sym (parts-are-nfd ucd u text all)
+
 pub joining : demand.Joining
 joining text out out′ n h = made _ h ∙ sym (nfc-join text)
 
 pub joining-ucd : demand.JoiningUcd
 joining-ucd ucd u text out out′ n all h = made _ h ∙ sym (joined-is-nfc ucd u text all)
+
+pub joining-keeps : demand.JoiningKeeps
+joining-keeps ucd u text out out′ n h = ap (nfd ucd) (made _ h) ∙ joined-equivalent ucd u text
 
 pub reading-utf8 : demand.ReadingUtf8
 reading-utf8 text out out′ c h =

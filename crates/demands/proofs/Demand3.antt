@@ -1,5 +1,4 @@
 -- Demand 3: damage in the middle of a text stays there.
--- Not here: why (crate mending, proofs/Damage; crate laws, proofs/Damage and Places). Assumes nothing.
 use mathlib.Core.Path.{refl, sym, _∙_}
 use native.Mathlib.Omega.{arith}
 use Rattle.answers.proofs.Checks.{bytes-taken}

@@ -1,12 +1,15 @@
--- Demand 3: "Take two byte texts within the limit, each given room, with the same beginning and the same ending and anything in between, of any lengths. In
--- the ending, go to the first byte that is no UTF-8 continuation byte. Read from there to the first character that is neither a modern vowel letter nor a
--- modern final letter; ill-formed bytes count as such a character. If there is one, both joined texts end with exactly what joining the ending from that
--- place gives. In the beginning, take the last well-formed character lying whole in it that is of neither kind. If there is one, both joined texts start
--- with what joining all that stands before it gives. No syllable is made from letters with ill-formed bytes between them: around each ill-formed subpart the
--- joined text is what joining all before it gives, then one FFFD, then what joining all behind it gives."
--- Statements over calls of mending that are done, whatever room they were given: a call within the limit and with three bytes for each is (`IsDone`), and so is one
--- with just the room that it needs (demand 1's row for it, crate demands_calls). Nothing is proved here. Not here: the places as they are computed (crate laws,
--- specs/Damage) and what has to be true of them (crate laws, specs/Places). Assumes nothing.
+-- Demand 3: "Take two byte texts within the limit, each given room, with the same beginning and the
+-- same ending and anything in between, of any lengths. In the ending, go to the first byte that is
+-- no UTF-8 continuation byte. Read from there to the first character that is neither a modern vowel
+-- letter nor a modern final letter; ill-formed bytes count as such a character. If there is one,
+-- both joined texts end with exactly what joining the ending from that place gives. In the
+-- beginning, take the last well-formed character lying whole in it that is of neither kind. If
+-- there is one, both joined texts start with what joining all that stands before it gives. No
+-- syllable is made from letters with ill-formed bytes between them: around each ill-formed subpart
+-- the joined text is what joining all before it gives, then one FFFD, then what joining all behind
+-- it gives." Statements over calls of mending that are done, whatever room they were given: a call
+-- within the limit and with three bytes for each is (`IsDone`), and so is one with just the room
+-- that it needs (demand 1's row for it, crate demands). Nothing is proved here.
 use mathlib.Core.Path.{_≡_}
 use mathlib.Core.List.{List, [], _∷_, _++_}
 use Prim.Native.Nat.{ℕ, _*_, _≤_}
@@ -17,20 +20,22 @@ use Rattle.laws.specs.Places.{EndingPlace, BeginningFound}
 use Rattle.utf8.specs.Table37.{kindOf}
 use Rattle.utf8.specs.Utf8.{utf8}
 use Rattle.utf8.specs.Reading.{Reads}
-use Rattle.utf8.specs.declared.read.Counted.{Counted}
-use Rattle.utf8.specs.declared.read.Read.{Read}
-use Rattle.utf8.specs.declared.read.Read.the-variants.{Done}
+use Rattle.utf8.specs.declared.text.Counted.{Counted}
+use Rattle.utf8.specs.declared.text.Read.{Read}
+use Rattle.utf8.specs.declared.text.Read.the-variants.{Done}
 use Rattle.mending.specs.Mending.{mended, joinedBytes, SameAround}
 use Rattle.demands.specs.Accident.{Mended}
 
--- "within the limit, each given room": such a call is done. Three bytes for each byte are always room enough
+-- "within the limit, each given room": such a call is done. Three bytes for each byte are always
+-- room enough
 abbrev pub IsDone : Type 0
 IsDone =
     (bytes out out′ : List ℕ) (r : Read) → length bytes ≤ 16384 → 3 * length bytes ≤ length out → Reads mended bytes out r out′
     → (c : Counted) × (r ≡ Done c)
 
--- "the same beginning and the same ending and anything in between": outside the damaged middle both joined texts are the same, and what they are there
--- (`SameAround` of crate mending: a start and a finish that both have, made of the beginning up to its place and of the ending from its place)
+-- "the same beginning and the same ending and anything in between": outside the damaged middle both
+-- joined texts are the same, and what they are there (`SameAround` of crate mending: a start and a
+-- finish that both have, made of the beginning up to its place and of the ending from its place)
 abbrev pub OutsideTheMiddle : Type 0
 OutsideTheMiddle =
     (beginning middle other ending v w : List ℕ)
@@ -43,7 +48,8 @@ EndingsPlace = (ending : List ℕ) → EndingPlace utf8 joinedBytes ending
 abbrev pub BeginningsPlace : Type 0
 BeginningsPlace = (beginning : List ℕ) → BeginningFound utf8 joinedBytes beginning
 
--- "No syllable is made from letters with ill-formed bytes between them": around each ill-formed subpart of the text's reading, the three bytes of FFFD
+-- "No syllable is made from letters with ill-formed bytes between them": around each ill-formed
+-- subpart of the text's reading, the three bytes of FFFD
 abbrev pub AroundIllFormed : Type 0
 AroundIllFormed =
     (text v : List ℕ) (before : List (Piece ℕ)) (subpart : List ℕ) (behind : List (Piece ℕ)) → Reading kindOf text (before ++ ill subpart ∷ behind)

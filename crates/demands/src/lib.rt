@@ -1,2 +1,2 @@
-// The customer's three demands and the accident, as statements over the public calls: no code here, and no argument that a crate below could make.
-// Statements in specs/, proofs in proofs/. Not here: demand 1 at each call (crate demands_calls), document 01's twelve cases (crate demands_cases).
+// The customer's demands, and document 01's twelve cases, as statements over the public calls
+// (specs/), with their proofs (proofs/). It has no code.

@@ -1,6 +1,7 @@
--- Laws of four code points. In order: A GROUP EXACTLY WHERE ALL FOUR FIT, d a filler, a an initial, b a peak and c a final or a filler
--- (`group-exactly`), and otherwise none (`group-otherwise`); with any other filler in it, it is no group; a group makes a syllable
--- (`group-syllable`); the group at an index of a text, as the code finds it. Not here: one code point (proofs/Letters). Assumes nothing.
+-- Laws of four code points. In order: they are A GROUP EXACTLY IF ALL FOUR FIT, d a filler, a an
+-- initial, b a peak and c a final or a filler (`group-exactly`), and else none (`group-otherwise`);
+-- with any other filler in it, it is no group; a group makes a syllable (`group-syllable`); the
+-- group at an index of a text, as the code finds it.
 use mathlib.Core.Path.{_≡_, refl, sym, _∙_, ap}
 use mathlib.Core.Bool.{Bool, true, false, cond}
 use mathlib.Core.Logic.{_↔_}
@@ -16,7 +17,7 @@ use borrow.Author.Tests.{eqb-true, eqb-false}
 use Rattle.letters.specs.Syllables.{isSyllable}
 use Rattle.letters.proofs.Steps.{syllable, syllable-made}
 use Rattle.fillers.specs.Groups.{asInitial, asPeak, asFinal, meaningOf, groupOf}
-use Rattle.fillers.specs.Codes.{groupAt, syllableIn}
+use Rattle.fillers.specs.Inner.{groupAt, syllableIn}
 use Rattle.fillers.proofs.Letters.{initial-no-filler, peak-no-filler, initial-below, peak-below, final-below, below-some}
 
 -- ---- a group exactly where all four fit

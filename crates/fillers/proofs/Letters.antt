@@ -1,6 +1,6 @@
--- Laws of the letters of KS X 1001: I, P and F of one code point. In order: by its range; as the code reads them from its table; that the filler is no
--- initial and no peak; their bounds; what 99, and any other number, says of what was read, and the most that is read of a peak.
--- Not here: the table (proofs/Table), four code points together (proofs/Fours). Assumes nothing.
+-- Laws of the letters of KS X 1001: I, P and F of one code point. In order: by its range; as the
+-- code reads them from its table; the filler is no initial and no peak; their bounds; what 99, and
+-- any other number, says of what was read; the most that is read.
 use mathlib.Core.Path.{_≡_, refl, sym, _∙_, ap}
 use mathlib.Core.Bool.{Bool, true, false, cond}
 use mathlib.Core.Option.{Option, none, some}
@@ -14,7 +14,7 @@ use Rattle.laws.specs.Ranges.{within}
 use Rattle.laws.proofs.Bools.{T-true, true-T}
 use Rattle.laws.proofs.Ranges.{within-yes, within-below, within-above, within-least, within-most}
 use Rattle.fillers.specs.Groups.{initial, pairs, initialIn, finalIn, asInitial, asPeak, asFinal}
-use Rattle.fillers.specs.Codes.{orNone, Pairs}
+use Rattle.fillers.specs.Inner.{orNone, Pairs}
 use Rattle.fillers.proofs.Table.{below, initials-below, finals-below}
 
 -- ---- by the range
@@ -116,10 +116,17 @@ pub read-some : (o : Option ℕ) {r : ℕ} → r ≡ orNone o → (r ≡ 99 → 
 read-some none e n = absurd (n e)
 read-some (some k) e n = rw e
 
--- and what was read of a peak is small, so that the code's sum fits
-pub peak-most : (c : ℕ) {p : ℕ} → p ≡ orNone (asPeak c) → p ≤ 99
-peak-most c {p} e = rw e (by (asPeak c) (peak-below c))
-  where
-    by : (o : Option ℕ) → T (below 21 o) → orNone o ≤ 99
-    by none t = omega arith
-    by (some k) t = omega (arith, below-some 21 (some k) t refl)
+-- and what was read is small, so that the code's sum fits
+read-most : (n : ℕ) (o : Option ℕ) → T (below n o) → n ≤ 99 → orNone o ≤ 99
+read-most n none t few = omega arith
+read-most n (some k) t few = omega (arith, below-some n (some k) t refl)
+
+module _ (c : ℕ) {r : ℕ} where
+  pub initial-most : r ≡ orNone (asInitial c) → r ≤ 99
+  initial-most e = rw e (read-most 19 (asInitial c) (initial-below c) (omega arith))
+
+  pub peak-most : r ≡ orNone (asPeak c) → r ≤ 99
+  peak-most e = rw e (read-most 21 (asPeak c) (peak-below c) (omega arith))
+
+  pub final-most : r ≡ orNone (asFinal c) → r ≤ 99
+  final-most e = rw e (read-most 28 (asFinal c) (final-below c) (omega arith))

@@ -1,6 +1,6 @@
--- The table of the letters 3131 to 314E. In order: a table of numbers is the pairs', by one test over all pairs, which antt computes (`pairs-right`);
--- every I of a pair is below 19 and every F below 28, by another (`initials-below`, `finals-below`).
--- Not here: the table, which stands in the code, and the pairs (specs/Groups). Assumes nothing.
+-- The table of the letters 3131 to 314E. In order: a table of numbers has I and F of the pairs, by
+-- one test over all pairs, which antt computes (`pairs-right`); every I of a pair is below 19 and
+-- every F below 28, by another (`initials-below`, `finals-below`).
 use mathlib.Core.Path.{_≡_, refl}
 use mathlib.Core.Bool.{Bool, true, _&&_}
 use mathlib.Core.Option.{Option, none, some}
@@ -12,7 +12,7 @@ use borrow.Author.Tests.{eqb-true}
 use Rattle.laws.proofs.Bools.{T-true, and-T-left, and-T-right}
 use Rattle.laws.proofs.Tables.{every, every-at}
 use Rattle.fillers.specs.Groups.{Pair, initial, pairs, initialIn, finalIn}
-use Rattle.fillers.specs.Codes.{orNone, Pairs}
+use Rattle.fillers.specs.Inner.{orNone, Pairs}
 
 -- ---- the table
 
@@ -45,7 +45,7 @@ pairs-right table size t = record {
 
 -- ---- the bounds
 
--- a number, where there is one, is below n
+-- a number, if there is one, is below n
 abbrev pub below : ℕ → Option ℕ → Bool
 below n none = true
 below n (some k) = ltb k n

@@ -1,6 +1,7 @@
--- Laws of the text with its groups turned. In order: where a group begins and where none does (`turned-group`, `turned-copied`); an induction over the
--- text from the left (`turned-by`), and by it that a text with no filler is unchanged, at most n and at least a quarter of n, good where the text is;
--- document 01's case 11; what the two loops ask. Not here: one group (proofs/Fours). Assumes nothing.
+-- Laws of the text with its groups turned. In order: where a group begins and where none does
+-- (`turned-group`, `turned-copied`); an induction over the text from the left (`turned-by`), and by
+-- it: a text with no filler is unchanged, n code points become at most n and at least a quarter of
+-- n, and good ones stay good; document 01's case 11; what the two loops ask.
 use mathlib.Core.Path.{_≡_, refl, sym, _∙_}
 use mathlib.Core.Bool.{false}
 use mathlib.Core.Option.{Option, none, some}
@@ -18,13 +19,13 @@ use Rattle.answers.specs.Checks.{bad}
 use Rattle.answers.proofs.Checks.{good-low}
 use Rattle.letters.proofs.Steps.{syllable-least, syllable-most}
 use Rattle.fillers.specs.Groups.{asInitial, asPeak, asFinal, pairs, groupOf, turnedBy, turned}
-use Rattle.fillers.specs.Codes.{groupAt, syllableIn}
+use Rattle.fillers.specs.Inner.{groupAt, syllableIn}
 use Rattle.fillers.proofs.Fours.{Group, Meant, turns, stays, group-meant, made-syllable}
 
 -- ---- where a group begins, and where none does
 
 module _ (d a b c : ℕ) (x : List ℕ) where
-  -- the syllable, and then the search goes on behind the group
+  -- the syllable, and then the search goes on after the group
   pub turned-group : (s : ℕ) → groupOf d a b c ≡ some (s ∷ []) → turned (d ∷ a ∷ b ∷ c ∷ x) ≡ s ∷ turned x
   unfolding turned
   turned-group s e = rw e
@@ -34,7 +35,8 @@ module _ (d a b c : ℕ) (x : List ℕ) where
   unfolding turned
   turned-copied e = rw e
 
--- ---- from the left: what holds of nothing, behind one code point copied and behind one group turned, holds of every text
+-- ---- from the left: what holds of nothing, after one code point copied and after one group
+-- turned, holds of every text
 
 module _ (P : List ℕ → List ℕ → Type 0) (nothing : P [] []) (copied : (d : ℕ) (x y : List ℕ) → P x y → P (d ∷ x) (d ∷ y))
     (group : (d a b c s : ℕ) (x y : List ℕ) → Group d a b c s → P x y → P (d ∷ a ∷ b ∷ c ∷ x) (s ∷ y)) where
@@ -112,7 +114,7 @@ no-group-turned d (a ∷ b ∷ c ∷ x) e = by (groupOf d a b c) (group-meant d 
     by _ (turns {s} g) e = absurd (omega (arith, syllable-least s (made-syllable g)))
     by _ (stays n) e = refl
 
--- a group found is four code points long, and behind them the search goes on
+-- a group found is four code points long, and the search goes on after them
 record Begins (s : ℕ) (x : List ℕ) : Type 0 where
   long : 4 ≤ length x
   behind : turned x ≡ s ∷ turned (drop 4 x)
@@ -141,7 +143,8 @@ module _ (text : List ℕ) (read : ℕ) (inside : read < length text) {s : ℕ} 
   pub group-inside : (s ≡ 0 → ⊥) → read + 4 ≤ length text
   group-inside n = omega (arith, simp length-drop at (group-begins n (drop read text) found .long))
 
--- what is written is at most as long as the text; and while something is left to be read, there is a place left to write to
+-- what is written is at most as long as the text; and while something is left to be read, there is
+-- a place left to write to
 pub written-most : (text : List ℕ) {rest out₀ out : List ℕ} {written : ℕ} → Filling (turned text) rest out₀ out written → written ≤ length text
 written-most text f = omega (arith, filling-count f, turned-most text)
 

@@ -1,5 +1,5 @@
--- Filler groups: document 01, 'Filler groups (KS X 1001)'. Four code points 3164, a, b, c become a syllable when a is an initial, b a peak and c a final
--- or 3164; groups are taken from the left. Not here: what a syllable is made of (crate letters). Assumes nothing.
+-- Filler groups: document 01, 'Filler groups (KS X 1001)'. Four code points 3164, a, b, c become a
+-- syllable when a is an initial, b a peak and c a final or 3164. Groups are taken from the left.
 use mathlib.Core.Bool.{Bool, cond}
 use mathlib.Core.Option.{Option, none, some}
 use mathlib.Core.List.{List, [], _∷_, _++_}
@@ -31,7 +31,8 @@ finalIn (both i f) = some f
 finalIn (initial i) = none
 finalIn (final f) = some f
 
--- I of a code point that is an initial, P of a peak, F of a final; the filler at the end stands for no final
+-- I of a code point that is an initial, P of a peak, F of a final; a filler at the end stands for
+-- no final
 unfoldable pub asInitial : ℕ → Option ℕ
 asInitial c = cond (within 0x3131 0x314E c) (initialIn (getD pairs (c - 0x3131) (initial 0))) none
 
@@ -41,7 +42,7 @@ asPeak c = cond (within 0x314F 0x3163 c) (some (c - 0x314F)) none
 unfoldable pub asFinal : ℕ → Option ℕ
 asFinal c = cond (eqb c 0x3164) (some 0) (cond (within 0x3131 0x314E c) (finalIn (getD pairs (c - 0x3131) (initial 0))) none)
 
--- the meaning of a group, a list of code points: the syllable, where there are all three
+-- the meaning of a group, a list of code points: the syllable, if there are all three
 abbrev pub meaningOf : Option ℕ → Option ℕ → Option ℕ → Option (List ℕ)
 meaningOf none p f = none
 meaningOf (some i) none f = none
@@ -52,11 +53,12 @@ meaningOf (some i) (some p) (some f) = some ((0xAC00 + i * 588 + p * 28 + f) ∷
 unfoldable pub groupOf : ℕ → ℕ → ℕ → ℕ → Option (List ℕ)
 groupOf d a b c = cond (eqb d 0x3164) (meaningOf (asInitial a) (asPeak b) (asFinal c)) none
 
--- THE TEXT WITH ITS GROUPS TURNED: from the left, going on behind each group; where none begins, one code point is copied. `behind` is that text behind
--- the group, `copied` behind the one code point
+-- THE TEXT WITH ITS GROUPS TURNED: from the left, going on after each group; where none begins, one
+-- code point is copied. `after` is what follows the group, turned; `copied` is what follows the one
+-- code point, turned
 abbrev pub turnedBy : Option (List ℕ) → ℕ → List ℕ → List ℕ → List ℕ
-turnedBy none d behind copied = d ∷ copied
-turnedBy (some meaning) d behind copied = meaning ++ behind
+turnedBy none d after copied = d ∷ copied
+turnedBy (some meaning) d after copied = meaning ++ after
 
 unfoldable pub turned : List ℕ → List ℕ
 turned [] = []

@@ -1,4 +1,4 @@
--- Crate fillers, specs/: the letters of KS X 1001, and the groups of four that a filler begins.
--- Not here: any law or proof (proofs/).
+-- The definitions of crate fillers, lowest first: the groups of four that a filler begins, and what
+-- the private functions promise.
 pub mod Groups
-pub mod Codes
+pub mod Inner

@@ -1,14 +1,16 @@
--- Laws of the joiner and of the joined text, for every text of any numbers. What joins are neighbours, from the left to the right; where a text may be
--- cut; that joining and taking apart undo each other; how long a joined text is. Not here: which two join (proofs/Pairs), a loop over
--- a buffer, and the Standard's canonical composition (crate normal).
+-- Laws of the joiner and of the joined text, for every text of any numbers. What joins are
+-- neighbours, from the left to the right; where a text may be cut; that joining and taking apart
+-- undo each other; how long a joined text is.
 --
--- In order: one step of the joiner (`step-apart`, `emit-apart`, `step-joined`, `emit-joined`); what a code point leaves open (`opens-as`, `meets-pair`,
--- `once`, `stays-open`); the joined text with no machine (`join-one`, `join-joined`, `join-apart`, `join-closed`); two and three at once (`join-two`,
--- `join-three`, `join-two-letters`, `join-three-letters`); left to right, only neighbours (`left-to-right`, `neighbours`); cuts (`fence`, `join-cut`,
--- `none-wall`, `mark-wall`, `mark-around`); joining what was taken apart (`join-step`, `join-parts-to`, `join-parts`); taking apart what was joined (`parts-join`,
--- `join-join`, `same-join`, `same-parts`); lengths (`join-most`, `join-least`); a text in which nothing joins (`join-none`); joining makes no bad
+-- In order: one step of the joiner (`step-apart`, `emit-apart`, `step-joined`, `emit-joined`); what
+-- a code point leaves open (`opens-as`, `meets-pair`, `once`, `stays-open`); the joined text with
+-- no machine (`join-one`, `join-joined`, `join-apart`, `join-closed`); two and three at once
+-- (`join-two`, `join-three`, `join-two-letters`, `join-three-letters`); left to right, only
+-- neighbours (`left-to-right`, `neighbours`); cuts (`fence`, `join-cut`, `none-wall`, `mark-wall`,
+-- `mark-around`); joining what was taken apart (`join-step`, `join-parts-to`, `join-parts`); taking
+-- apart what was joined (`parts-join`, `join-join`, `same-join`, `same-parts`); lengths
+-- (`join-most`, `join-least`); a text in which nothing joins (`join-none`); joining makes no bad
 -- code point (`join-good`).
--- Assumes nothing.
 use mathlib.Core.Path.{_≡_, refl, sym, _∙_, ap}
 use mathlib.Core.Bool.{false}
 use mathlib.Core.List.{List, [], _∷_, _++_, append-assoc, append-nil}
@@ -26,11 +28,9 @@ use Rattle.answers.specs.Checks.{bad}
 use Rattle.letters.specs.Syllables.{oneStep, partsTo, fullParts}
 use Rattle.joining.specs.declared.role.Role.{Role}
 use Rattle.joining.specs.declared.role.Role.the-variants.{Initial as RoleInitial, Peak, Final, Lv as RoleLv, None}
-use Rattle.joining.specs.Roles.{roleOf, pair}
-use Rattle.joining.specs.Roles.{Hard}
+use Rattle.joining.specs.Roles.{roleOf, pair, Hard}
 use Rattle.joining.proofs.Roles.{role-between, firm, hard-as}
-use Rattle.joining.proofs.Pairs.{pair-as, by-pair, pair-before, two-letters, three-letters, lv-made, lvt-made, pair-good, step-pair, by-parts}
-use Rattle.joining.proofs.Pairs.{pair-parts, no-fourth}
+use Rattle.joining.proofs.Pairs.{pair-as, by-pair, pair-before, two-letters, three-letters, lv-made, lvt-made, pair-good, step-pair, by-parts, pair-parts, no-fourth}
 use Rattle.joining.specs.declared.joiner.Open.{Open}
 use Rattle.joining.specs.declared.joiner.Open.the-variants.{Nothing, Initial, Lv}
 use Rattle.joining.specs.Joining.{opensAs, opens, held, meets, unless, joinStep, joinEmit, joiner, join}
@@ -175,7 +175,8 @@ mark-around x y = around joiner 0xFFFD x y mark-wall ∙ rw (opens-as 0xFFFD mar
 
 -- ---- joining what was taken apart
 
--- from every state, reading two that join does what reading their pair does: the first of them is a fence, and so is their pair
+-- from every state, reading two that join does what reading their pair does: the first of them is a
+-- fence, and so is their pair
 module _ (a b : ℕ) (n : pair a b ≡ 0 → ⊥) where
   first-fence : Fence joiner a
   first-fence = by-pair a b (λ p q. fence-as a p tt) (λ p q. fence-as a p tt) (λ z. absurd (n z))

@@ -1,7 +1,8 @@
--- Crate joining, proofs/: the laws of roles and of pairs, of the joined text, of a step's answers, and of the public call, lowest first.
--- Not here: the definitions (specs/), and the proofs of the functions (crates joining_role, joining_step, joining_text).
+-- The laws of crate joining. What a caller may cite is `pub mod`; functions' proofs have folders of
+-- their own.
 pub mod Roles
 pub mod Pairs
 pub mod Joins
 pub mod Stepping
 pub mod Calls
+pub mod Joiners

@@ -1,10 +1,11 @@
--- Laws of two neighbours, whatever the two numbers are. THE PAIR LAW: a and b join to s exactly where the one step of s is a and b.
--- Not here: a whole text (proofs/Joins), the roles from the ranges (proofs/Roles).
+-- Laws of two neighbours, whatever the two numbers are. THE PAIR LAW: a and b join to s exactly
+-- where the one step of s is a and b.
 --
--- In order: by roles (`pair-as`, `pair-lv`, `pair-lvt`, `by-pair`, `pair-other`, `pair-before`, `pair-firm`, `pair-behind`, `pair-none`); by numbers (`two-letters`,
--- `lv-letter`, `three-letters`); what two that join make (`lv-made`, `lvt-made`, `pair-syllable`, `pair-good`); the pair law (`pair-step`, `step-pair`, `pair-law`,
--- `by-parts`, `pair-parts`); what joins with nothing more (`lvt-closed`, `no-fourth`, `a7-no-final`).
--- Assumes nothing.
+-- In order: by roles (`pair-as`, `pair-lv`, `pair-lvt`, `by-pair`, `pair-other`, `pair-before`,
+-- `pair-firm`, `pair-behind`, `pair-none`); by numbers (`two-letters`, `lv-letter`,
+-- `three-letters`); what two that join make (`lv-made`, `lvt-made`, `pair-syllable`, `pair-good`);
+-- the pair law (`pair-step`, `step-pair`, `pair-law`, `by-parts`, `pair-parts`); what joins with
+-- nothing more (`lvt-closed`, `no-fourth`, `a7-no-final`).
 use mathlib.Core.Path.{_≡_, refl, sym, _∙_, ap}
 use mathlib.Core.Bool.{true, false}
 use mathlib.Core.Logic.{_↔_}
@@ -20,7 +21,7 @@ use Rattle.letters.specs.declared.sort.Sort.the-variants.{Lvt}
 use Rattle.letters.specs.Sorts.{sortOf}
 use Rattle.letters.specs.Syllables.{isSyllable, indexOf, initialOf, peakOf, finalOf, oneStep, partsOf}
 use Rattle.letters.proofs.Steps.{syllable-yes, syllable-least, syllable-most, step-lv, step-lvt, step-other, by-step}
-use Rattle.letters.proofs.Parts.{full-of-step}
+use Rattle.letters.proofs.FullParts.{full-of-step}
 use Rattle.joining.specs.declared.role.Role.{Role}
 use Rattle.joining.specs.declared.role.Role.the-variants.{Initial as RoleInitial, Peak, Final, Lv as RoleLv, None}
 use Rattle.joining.specs.Roles.{roleIn, roleOf, pairAs, pair}

@@ -1,10 +1,10 @@
--- Laws of the roles: what a code point is to the joiner, from where it lies, and where it lies, from what it is to the joiner.
--- Not here: which two join (proofs/Pairs), the sorter's own laws (crate letters, proofs/Sorts).
+-- Laws of the roles: what a code point is to the joiner, from where it lies, and where it lies,
+-- from what it is to the joiner.
 --
--- In order: forwards (`role-between`, `role-initial`, `role-peak`, `role-final`, `role-lv`, `role-lvt`); backwards (`initial-range`, `peak-range`,
--- `final-range`, `lv-syllable`, `lv-final`); by cases, and what is no modern letter and no syllable (`by-role`, `role-none`); the roles that join with
--- nothing before them (`firm`, `hard-as`).
--- Assumes nothing.
+-- In order: forwards (`role-between`, `role-initial`, `role-peak`, `role-final`, `role-lv`,
+-- `role-lvt`); backwards (`initial-range`, `peak-range`, `final-range`, `lv-syllable`, `lv-final`);
+-- by cases, and what is no modern letter and no syllable (`by-role`, `role-none`); the roles that
+-- join with nothing before them (`firm`, `hard-as`).
 use mathlib.Core.Path.{_≡_, refl, sym, _∙_, ap}
 use mathlib.Core.Bool.{Bool, true, false, _&&_, _||_}
 use Prim.Native.Nat.{ℕ, _≤_}
@@ -18,12 +18,12 @@ use Rattle.letters.proofs.Sorts.{sort-between, sort-lv, sort-lvt, modern-initia
 use Rattle.letters.proofs.Steps.{syllable-yes, syllable-least, syllable-most}
 use Rattle.joining.specs.declared.role.Role.{Role}
 use Rattle.joining.specs.declared.role.Role.the-variants.{Initial as RoleInitial, Peak, Final, Lv as RoleLv, None}
-use Rattle.joining.specs.Roles.{roleIn, roleOf}
-use Rattle.joining.specs.Roles.{Hard}
+use Rattle.joining.specs.Roles.{roleIn, roleOf, Hard}
 
 -- ---- forwards: from the range to the role
 
--- THE ROLE BETWEEN TWO BOUNDS that lie before the syllables or behind them: both tests compute where lo and hi are numerals
+-- THE ROLE BETWEEN TWO BOUNDS that lie before the syllables or behind them: both tests compute
+-- where lo and hi are numerals
 pub role-between : (lo hi c : ℕ) → T ((ltb hi 0xAC00 || ltb 0xD7A3 lo) && uncut lo hi letterRanges) → lo ≤ c → c ≤ hi
     → roleOf c ≡ roleIn (between Other lo hi letterRanges)
 unfolding roleOf

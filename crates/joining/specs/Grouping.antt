@@ -1,6 +1,6 @@
--- Grouping: what 'only neighbours join' says of a text and of what it joins to, with no joiner. Both fall into the same groups, in order, and each group
--- is one code point that stays, or two neighbours that join, or two that join to what joins with a third. Not here: that what can join does join.
--- Assumes nothing.
+-- Grouping: what 'only neighbours join' says of a text and of what it joins to, with no joiner.
+-- Both fall into the same groups, in order, and each group is one code point that stays, or two
+-- neighbours that join, or two that join to what joins with a third.
 use mathlib.Core.Path.{_≡_}
 use mathlib.Core.List.{List, [], _∷_}
 use Prim.Native.Nat.{ℕ}

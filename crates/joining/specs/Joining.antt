@@ -1,6 +1,6 @@
--- Joining: document 01, 'Syllables'. The joiner as a machine that reads a text from the left and carries what is still open: nothing, an initial, or an LV.
--- Not here: what a code point is to the joiner, and which two neighbours join (specs/Roles); the Standard's own definition of canonical
--- composition (crate normal), which is shown to give the same. Assumes nothing.
+-- Joining: document 01, 'Syllables'. The joiner as a machine that reads a text from the left and
+-- carries what is still open: nothing, an initial, or an LV. Canonical composition, as the Standard
+-- defines it (crate normal), is shown to give the same.
 use mathlib.Core.Bool.{cond}
 use mathlib.Core.List.{List, [], _∷_, _++_}
 use Prim.Native.Nat.{ℕ}
@@ -41,7 +41,8 @@ unless Nothing c = c ∷ []
 unless (Initial i) c = []
 unless (Lv s) c = []
 
--- a step: what is open and c join to j, and what j leaves open is open now; or they do not (j is 0), what was open is written, and c is as from the start
+-- a step: what is open and c join to j, and what j leaves open is open now; or they do not (j is
+-- 0), what was open is written, and c is as from the start
 abbrev pub joinStep : Open → ℕ → Open
 joinStep o c = opens (cond (eqb (meets o c) 0) c (meets o c))
 

@@ -1,6 +1,6 @@
--- Crate joining, specs/: which two neighbours join, joining, grouping, and what a step answers, lowest first.
--- Not here: any law or proof (proofs/).
+-- The definitions of crate joining, lowest first: which two neighbours join, joining, grouping, and
+-- what a step answers.
 pub mod Roles
 pub mod Joining
 pub mod Grouping
-pub mod Steps
+pub mod Answers

@@ -1,5 +1,5 @@
--- Roles: document 01, 'Syllables'. What a code point is to the joiner; which two neighbours join, and to what; the code points that join with nothing
--- before them. Not here: the joiner, and a text (specs/Joining). Assumes nothing.
+-- Roles: document 01, 'Syllables'. What a code point is to the joiner; which two neighbours join,
+-- and to what; the code points that join with nothing before them.
 use mathlib.Core.Path.{_≡_}
 use Prim.Native.Nat.{ℕ, _+_, _-_, _*_}
 use Rattle.letters.specs.Sorts.{sortOf}
@@ -28,7 +28,8 @@ roleOf c = roleIn (sortOf c)
 
 -- ---- two neighbours
 
--- a modern initial then a modern peak gives AC00 + I·588 + P·28; an LV then a modern final adds final − 11A7; no other two join, and 0 says so
+-- a modern initial then a modern peak gives AC00 + I·588 + P·28; an LV then a modern final adds
+-- final − 11A7; no other two join, and 0 says so
 abbrev pub pairAs : Role → Role → ℕ → ℕ → ℕ
 pairAs RoleInitial RoleInitial a b = 0
 pairAs RoleInitial Peak a b = 0xAC00 + (a - 0x1100) * 588 + (b - 0x1161) * 28

@@ -1,4 +1,17 @@
-// Joining letters into syllables (document 01, 'Syllables'): the definitions and laws, and the types that they speak of.
-// Not here: two neighbours joined (crate joining_role), the joiner's step (joining_step), joining a text (joining_text), taking apart (crate letters), bytes (crate mending).
-pub mod joiner;
-pub mod role;
+// Joining letters into syllables (document 01, 'Syllables').
+mod joiner;
+mod role;
+mod text;
+
+pub use joiner::Emitted;
+pub use joiner::Joiner;
+pub use joiner::Open;
+pub use joiner::Outcome;
+pub use joiner::flush;
+pub use joiner::put;
+pub use joiner::start;
+pub use joiner::step;
+pub use role::Role;
+pub use role::joined;
+pub use role::role_of;
+pub use text::join;

@@ -1,9 +1,76 @@
-// What a code point is to the joiner: the definitions speak of it (document 01, 'Syllables'). A type alone.
-// Not here: the role of a code point (crate joining_role).
+// What a code point is to the joiner, and what two neighbours join to (document 01, 'Syllables').
+use letters::Sort;
+ghost use mathlib.Core.Path.{_≡_};
+ghost use Rattle.joining.specs.Roles.{roleOf, pair, pairAs};
+ghost use Rattle.joining.specs.declared.role.Role.the-variants.{Peak, Final};
+
 pub enum Role {
     Initial,
     Peak,
     Final,
     Lv,
     None,
+}
+
+pub fn role_of(code: u32) -> Role
+    ensures { λ r. ⌜ r ≡ roleOf code ⌝ }
+{
+    let sort = letters::sort_of(code);
+    match sort {
+        Sort::ModernInitial => Role::Initial,
+        Sort::ModernPeak => Role::Peak,
+        Sort::ModernFinal => Role::Final,
+        Sort::Lv => Role::Lv,
+        Sort::OldInitial => Role::None,
+        Sort::InitialFiller => Role::None,
+        Sort::PeakFiller => Role::None,
+        Sort::OldPeak => Role::None,
+        Sort::OldFinal => Role::None,
+        Sort::Lvt => Role::None,
+        Sort::Other => Role::None,
+    }
+}
+
+// What stands before a peak and the peak join to, or 0.
+fn before_peak(first: u32, peak: u32) -> u32
+    requires { ⌜ roleOf peak ≡ Peak ⌝ }
+    ensures { λ r. ⌜ r ≡ pair first peak ⌝ }
+{
+    let role = role_of(first);
+    match role {
+        Role::Initial => 0xAC00 + (first - 0x1100) * 588 + (peak - 0x1161) * 28,
+        Role::Peak => 0,
+        Role::Final => 0,
+        Role::Lv => 0,
+        Role::None => 0,
+    }
+}
+
+// What stands before a final and the final join to, or 0.
+fn before_final(first: u32, last: u32) -> u32
+    requires { ⌜ roleOf last ≡ Final ⌝ }
+    ensures { λ r. ⌜ r ≡ pair first last ⌝ }
+{
+    let role = role_of(first);
+    match role {
+        Role::Lv => first + (last - 0x11A7),
+        Role::Initial => 0,
+        Role::Peak => 0,
+        Role::Final => 0,
+        Role::None => 0,
+    }
+}
+
+// What two neighbours join to, or 0 where they do not join.
+pub fn joined(first: u32, second: u32) -> u32
+    ensures { λ r. ⌜ r ≡ pair first second ⌝ }
+{
+    let role = role_of(second);
+    match role {
+        Role::Peak => before_peak(first, second),
+        Role::Final => before_final(first, second),
+        Role::Initial => 0,
+        Role::Lv => 0,
+        Role::None => 0,
+    }
 }

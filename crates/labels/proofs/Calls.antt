@@ -1,12 +1,12 @@
--- What the calls of the label file say, over their contracts: `Finds` for reading one record, `Judges` for a whole image, `Writes` for writing a
--- record.
+-- What the calls of the label file promise, from their contracts: `Finds` for one record, `Judges`
+-- for a whole image, `Writes` for writing.
 --
--- In order: ANY TWO RESULTS ARE EQUAL (`found-injective`, `finds-unique`, `judged-injective`, `judges-unique`, `writes-unique`); what is checked of
--- an image goes by its length (`same-over`, `same-number`); what writing that passes its checks says; A WRITTEN RECORD IS READ AGAIN
--- (`read-written`); A RECORD THAT WAS READ AND IS WRITTEN AGAIN CHANGES NOTHING (`written-back`); THE OTHER RECORDS ARE KEPT (`writes-length`,
--- `others-kept`); two spellings of one text are stored as the same bytes (`stored-same`).
--- Not here: which record is the lowest bad one (proofs/Lowest).
--- Assumes nothing.
+-- In order: ANY TWO RESULTS ARE EQUAL (`found-injective`, `finds-unique`, `judged-injective`,
+-- `judges-unique`, `writes-unique`); the checks of an image depend on its length only (`same-over`,
+-- `same-number`); what a writing that passes its checks says; A WRITTEN RECORD IS READ AGAIN
+-- (`read-written`); A RECORD THAT WAS READ AND IS WRITTEN AGAIN CHANGES NOTHING (`written-back`);
+-- THE OTHER RECORDS ARE KEPT (`writes-length`, `others-kept`); two spellings of one text are stored
+-- as the same bytes (`stored-same`).
 use mathlib.Core.Path.{_≡_, refl, sym, _∙_, ap}
 use mathlib.Core.Bool.{true, _&&_}
 use mathlib.Core.List.{List, [], _∷_}
@@ -20,8 +20,8 @@ use Rattle.laws.specs.Writing.{front}
 use Rattle.laws.proofs.Bools.{and-left, and-right}
 use Rattle.laws.proofs.Lists.{all-left, all-right}
 use Rattle.answers.specs.Checks.{Check, passes, refuses, inOrder, takesBytes}
-use Rattle.answers.specs.declared.Checked.{Checked}
-use Rattle.answers.specs.declared.Checked.the-variants.{Passed}
+use Rattle.answers.specs.declared.answer.Checked.{Checked}
+use Rattle.answers.specs.declared.answer.Checked.the-variants.{Passed}
 use Rattle.answers.proofs.Answers.{refusedBy-injective, checked-injective}
 use Rattle.answers.proofs.Checks.{bytes-taken}
 use Rattle.answers.proofs.Verdicts.{filled-whole, fills-unique, fills-done, fills-front}
@@ -30,15 +30,14 @@ use Rattle.utf8.specs.Utf8.{readText, illText}
 use Rattle.mending.proofs.Round.{mended-ills}
 use Rattle.mending.proofs.Same.{same-mended}
 use Rattle.labels.specs.Records.{recordOf, objectOf, berthOf, labelOf, entryOf}
-use Rattle.labels.specs.Images.{recordAt, replaced, overImage, noRecord, takesRecord, foundAs, Finds, judgedAs, namedBy, Judges}
-use Rattle.labels.specs.Images.{stored, noLabel, takesWriting, changed, Writes}
-use Rattle.labels.specs.declared.layout.Entry.{Entry}
-use Rattle.labels.specs.declared.image.Found.{Found}
-use Rattle.labels.specs.declared.image.Found.the-variants.{Record, Refused as FoundRefused}
+use Rattle.labels.specs.Images.{recordAt, replaced, overImage, noRecord, takesRecord, foundAs, Finds, judgedAs, namedBy, Judges, stored, noLabel, takesWriting, changed, Writes}
+use Rattle.labels.specs.declared.record.Entry.{Entry}
+use Rattle.labels.specs.declared.read.Found.{Found}
+use Rattle.labels.specs.declared.read.Found.the-variants.{Record, Refused as FoundRefused}
 use Rattle.labels.specs.declared.image.Judged.{Judged}
 use Rattle.labels.specs.declared.image.Judged.the-variants.{Records, Refused, BadRecord}
-use Rattle.labels.specs.declared.image.Form.{Form}
-use Rattle.labels.specs.declared.image.Form.the-variants.{AsGiven, Joined}
+use Rattle.labels.specs.declared.write.Form.{Form}
+use Rattle.labels.specs.declared.write.Form.the-variants.{AsGiven, Joined}
 use Rattle.labels.proofs.Records.{record-length, record-object, record-berth, record-size, record-label}
 use Rattle.answers.proofs.Orders.{order-first, order-rest, passes-true}
 use Rattle.labels.proofs.Layouts.{layout-good, written-passes, record-back}
@@ -177,8 +176,8 @@ module _ (image : List ℕ) (k object berth : ℕ) (form : Form) (label : List �
         record-size object berth (stored form label),
       )
 
-  -- after writing that is done, reading that record gives the object, the berth and the length of what was stored, and fills the buffer with what was
-  -- stored, where it has room (88 bytes always do)
+  -- after a writing that is done, reading that record gives the object, the berth and the length of
+  -- what was stored, and fills the buffer with it if there is room (88 bytes are always enough)
   pub read-written : object < 2 ^ 32 → berth < 2 ^ 16 → (out : List ℕ) → length (stored form label) ≤ length out → {r : Found} {out′ : List ℕ}
       → Finds image′ k out r out′
       → (r ≡ Record (record { object = object; berth = berth; length = length (stored form label) })) × (out′ ≡ front (stored form label) out)
@@ -234,7 +233,8 @@ module _ (image : List ℕ) (k : ℕ) (all : All (λ b. b < 256) image) (taken :
         ∙ back-image,
   )
 
--- the object, the berth and the label that reading gave, written as given, are taken and leave the image as it was
+-- the object, the berth and the label that reading gave, written as given, are taken and leave the
+-- image as it was
 pub written-back : (image : List ℕ) (k : ℕ) (out : List ℕ) {e : Entry} {out′ : List ℕ} → All (λ b. b < 256) image → Finds image k out (Record e) out′
     → {q : Checked} {image′ : List ℕ} → Writes image k (e .object) (e .berth) AsGiven (take (e .length) out′) q image′
     → (q ≡ Passed) × (image′ ≡ image)

@@ -1,32 +1,30 @@
 -- Reading one record of an image.
 --
--- In order: the checks 1, 6 and 7 (`one-over`, `one-number`, `one-inside`, `one-record`) and what a record that passes them is (`taken-over`,
--- `taken-number`, `taken-inside`, `taken-layout`, `taken-short`, `taken-size`, `taken-label`); the entry that was read (`size-short`) and the ways
+-- In order: the checks 1, 6 and 7 (`one-over`, `one-number`, `one-inside`, `one-record`); what is
+-- known of a record that passes them (`taken-over`, `taken-number`, `taken-inside`, `taken-layout`,
+-- `taken-short`, `taken-size`, `taken-label`); the entry that was read (`size-short`); and the ways
 -- in which the call returns (`finds-refused`, `finds-lacking`, `finds-done`).
--- Not here: the checks by themselves (proofs/Images, proofs/Layouts), what the answers say (proofs/Calls).
--- Assumes nothing.
 use mathlib.Core.Path.{_≡_, sym, _∙_, ap}
 use mathlib.Core.List.{List, [], _∷_}
 use Prim.Native.Nat.{ℕ, _+_, _-_, _*_, _≤_, _<_}
 use native.Mathlib.Omega.{arith}
 use lib.ListN.{length, take, drop, length-drop, take-append-drop}
 use lib.Seq.{length-take-le, take-append-le, drop-append-le, drop-drop}
+use Rattle.laws.specs.Writing.{front}
 use Rattle.answers.specs.Checks.{passes, refuses, inOrder}
 use Rattle.answers.specs.Answers.{checked}
-use Rattle.answers.specs.declared.Refusal.{Refusal}
-use Rattle.answers.specs.declared.Refusal.the-variants.{NoRoom}
-use Rattle.answers.specs.declared.Checked.{Checked}
-use Rattle.answers.specs.declared.Checked.the-variants.{Passed, Refused as CheckRefused}
+use Rattle.answers.specs.declared.refusal.Refusal.{Refusal}
+use Rattle.answers.specs.declared.refusal.Refusal.the-variants.{NoRoom}
+use Rattle.answers.specs.declared.answer.Checked.{Checked}
+use Rattle.answers.specs.declared.answer.Checked.the-variants.{Passed, Refused as CheckRefused}
 use Rattle.answers.proofs.Verdicts.{refused-before, refused-room, filled-whole}
 use Rattle.labels.specs.Records.{sizeOf, labelOf, entryOf, layout}
-use Rattle.labels.specs.Images.{recordAt, overImage, noRecord, takesRecord, Finds, entryAt}
-use Rattle.labels.specs.declared.layout.Entry.{Entry}
-use Rattle.labels.specs.declared.image.Found.the-variants.{Record, Refused}
+use Rattle.labels.specs.Images.{recordAt, overImage, noRecord, takesRecord, Finds}
+use Rattle.labels.specs.declared.record.Entry.{Entry}
+use Rattle.labels.specs.declared.read.Found.the-variants.{Record, Refused}
 use Rattle.answers.proofs.Orders.{order-first, order-rest, order-one}
 use Rattle.labels.proofs.Layouts.{label-length, layout-good}
-use Rattle.labels.specs.Steps.{copied}
-use Rattle.labels.proofs.Images.{at-length, entry-inside, image-over, image-within, number-inside}
-use Rattle.labels.proofs.Copies.{copied-front}
+use Rattle.labels.proofs.Images.{at-length, image-over, image-within, number-inside}
 
 -- ---- 1, 6 and 7: v is what the check of the number said, and w that of the record
 
@@ -101,10 +99,7 @@ module _ (image : List ℕ) (k : ℕ) (taken : takesRecord image k ≡ passes) w
 
 -- the entry is that of the record
 module _ (image : List ℕ) (k : ℕ) (taken : takesRecord image k ≡ passes) {entry : Entry}
-    (read : entry ≡ entryAt image k) where
-  entry-is : entry ≡ entryOf (recordAt image k)
-  entry-is = read ∙ entry-inside image k (taken-inside image k taken)
-
+    (entry-is : entry ≡ entryOf (recordAt image k)) where
   size-is : entry .length ≡ length (labelOf (recordAt image k))
   size-is = ap (λ (e : Entry). e .length) entry-is ∙ sym (taken-size image k taken)
 
@@ -116,12 +111,12 @@ module _ (image : List ℕ) (k : ℕ) (taken : takesRecord image k ≡ passes) {
     finds-lacking h = record { fills = refused-room taken size-is h }
 
     pub finds-done : entry .length ≤ length out
-        → {out′ : List ℕ} → out′ ≡ copied (take (96 * k + 8 + entry .length - (96 * k + 8)) (drop (96 * k + 8) image)) out
+        → {out′ : List ℕ} → out′ ≡ front (take (96 * k + 8 + entry .length - (96 * k + 8)) (drop (96 * k + 8) image)) out
         → Finds image k out (Record entry) out′
     finds-done h e =
         let l = taken-label image k taken (entry .length) (ap (λ (e : Entry). e .length) entry-is) in
         let fits : length (labelOf (recordAt image k)) ≤ length out = omega (arith, size-is) in
-        rw entry-is (record { fills = filled-whole taken fits ((rw l at e) ∙ copied-front (labelOf (recordAt image k)) out fits) })
+        rw entry-is (record { fills = filled-whole taken fits (rw l at e) })
 
 -- v is what the checks said
 pub finds-refused : (image : List ℕ) (k : ℕ) (out : List ℕ) {v : Checked} {r : Refusal} → checked v ≡ takesRecord image k → v ≡ CheckRefused r

@@ -1,10 +1,10 @@
--- The records of an image, and what its calls check.
+-- The records of an image, and the checks 1 and 6.
 --
--- In order: a record in an image (`at-length`), and an image with another record (`replaced-length`, `replaced-here`, `replaced-other`,
--- `replaced-same`); the checks 1 and 6 (`image-over`, `image-within`, `taken-short`, `taken-count`, `number-uneven`, `number-beyond`, `number-in`, `number-inside`,
--- `image-uneven`, `image-even`).
--- Not here: the ways in which the calls return (proofs/Finding, proofs/Judging, proofs/Storing).
--- Assumes nothing.
+-- In order: a record in an image (`at-length`); an image with another record in it
+-- (`replaced-length`, `replaced-here`, `replaced-other`, `replaced-same`); the checks
+-- (`image-over`, `image-within`, `taken-short`, `taken-count`, `number-uneven`, `number-beyond`,
+-- `number-in`, `number-inside`, `image-uneven`, `image-even`); and the part of an image that is
+-- judged is the record (`fault-is`).
 use mathlib.Core.Path.{_≡_, sym, _∙_, ap}
 use mathlib.Core.Bool.{_&&_}
 use mathlib.Core.List.{List, [], _∷_, _++_, append-assoc}
@@ -18,13 +18,13 @@ use Rattle.laws.proofs.Bools.{test, and-right}
 use Rattle.answers.specs.Checks.{passes, refuses}
 use Rattle.answers.proofs.Orders.{order-first, passes-true}
 use Rattle.answers.proofs.Checks.{over-limit-refuses, over-limit-passes, over-limit-kept}
-use Rattle.labels.specs.Records.{entryOf, layout}
-use Rattle.labels.specs.Images.{recordAt, replaced, countOf, overImage, noImage, layoutsFrom, noRecord, takesImage, entryAt}
-use Rattle.labels.specs.Steps.{faulty}
+use Rattle.labels.specs.Records.{layout}
+use Rattle.labels.specs.Images.{recordAt, replaced, countOf, overImage, noImage, layoutsFrom, noRecord, takesImage}
+use Rattle.labels.specs.Inner.{faulty}
 
 -- ---- a record in its image
 
--- a part of a list that ends before its front does stands in the front
+-- a part that ends before the front of a list ends is a part of that front
 part-front : (n : ℕ) (x y : List ℕ) → n + 96 ≤ length x → take 96 (drop n (x ++ y)) ≡ take 96 (drop n x)
 part-front n x y h =
     rw (drop-append-le n x y (omega arith)) (take-append-le 96 (drop n x) y (omega (arith, length-drop n x)))
@@ -128,15 +128,11 @@ module _ (image : List ℕ) where
         let both = passes-true (eqb (length image % 96) 0 && ltb k (countOf image)) 6 (length image) e in
         omega (arith, ltb-true k (countOf image) (and-right (eqb (length image % 96) 0) (ltb k (countOf image)) both))
 
--- the part of the image that the code judges is the record: byte is the first that breaks its layout
+-- the part of the image that the code judges is the record: byte is the first that breaks its
+-- layout
 pub fault-is : (image : List ℕ) (k byte : ℕ) → layout (take (96 * k + 96 - 96 * k) (drop (96 * k) image)) ≡ faulty byte
     → layout (recordAt image k) ≡ faulty byte
 unfolding recordAt
 fault-is image k byte e =
     let n : 96 * k + 96 - 96 * k ≡ 96 = omega arith in
     rw n at e
-
--- what a record in the image says is what its 96 bytes say
-pub entry-inside : (image : List ℕ) (k : ℕ) → 96 * k + 96 ≤ length image → entryAt image k ≡ entryOf (recordAt image k)
-unfolding entryAt
-entry-inside image k h = rw (lt-ltb k (countOf image) (omega arith))

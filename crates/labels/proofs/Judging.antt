@@ -1,11 +1,10 @@
 -- Judging a whole image, record by record.
 --
--- In order: a byte that breaks a layout, as a check (`faulty-none`, `faulty-some`); checks 1 and 6 of an image (`whole-over`, `whole-uneven`,
--- `whole-passed`); what the loop keeps (`Judging`: the records from an index on are judged as all are), from its beginning (`judging-none`) over a
--- good record (`judging-more`) to the first bad one (`judging-bad`) or the end (`judging-all`); and the call where 1 or 6 is given
--- (`judges-refused`).
--- Not here: the layout of a record (proofs/Layouts), what the answers say (proofs/Calls).
--- Assumes nothing.
+-- In order: a byte that breaks a layout, as a check (`faulty-none`, `faulty-some`); the checks 1
+-- and 6 of an image (`whole-over`, `whole-uneven`, `whole-passed`); the loop's invariant
+-- (`Judging`: the records from an index on are judged as all are), from its beginning
+-- (`judging-none`) over a good record (`judging-more`) to the first bad one (`judging-bad`) or the
+-- end (`judging-all`); and the call if 1 or 6 is given (`judges-refused`).
 use mathlib.Core.Path.{_≡_, refl, sym, _∙_, ap}
 use mathlib.Core.Option.{some}
 use mathlib.Core.List.{List, [], _∷_}
@@ -16,12 +15,12 @@ use lib.ListN.{length}
 use borrow.Author.Tests.{eq-eqb, ne-eqb}
 use Rattle.answers.specs.Checks.{Check, passes, refuses, inOrder}
 use Rattle.answers.specs.Answers.{checked}
-use Rattle.answers.specs.declared.Refusal.{Refusal}
-use Rattle.answers.specs.declared.Checked.{Checked}
-use Rattle.answers.specs.declared.Checked.the-variants.{Refused as CheckRefused}
+use Rattle.answers.specs.declared.refusal.Refusal.{Refusal}
+use Rattle.answers.specs.declared.answer.Checked.{Checked}
+use Rattle.answers.specs.declared.answer.Checked.the-variants.{Refused as CheckRefused}
 use Rattle.labels.specs.Records.{layout}
 use Rattle.labels.specs.Images.{recordAt, countOf, overImage, noImage, layoutsFrom, badFrom, takesImage, badRecord, Judges}
-use Rattle.labels.specs.Steps.{faulty}
+use Rattle.labels.specs.Inner.{faulty}
 use Rattle.labels.specs.declared.image.Judged.the-variants.{Records, Refused, BadRecord}
 use Rattle.answers.proofs.Orders.{order-refused, order-passed, order-one}
 use Rattle.labels.proofs.Images.{image-over, image-within, image-uneven, image-even}
@@ -81,7 +80,7 @@ bad-stop : (image : List ℕ) (k n : ℕ) {byte : ℕ} → layout (recordAt imag
 unfolding badFrom
 bad-stop image k n e = rw e
 
--- where 1 and 6 are not given, the records decide
+-- if 1 and 6 are not given, the records decide
 module _ (image : List ℕ) (taken : sized image ≡ passes) where
   records-decide : takesImage image ≡ layoutsFrom image 0 (countOf image)
   unfolding takesImage
@@ -128,7 +127,7 @@ module _ (image : List ℕ) {number : ℕ} (j : Judging image number) where
         all zero s p q = record { answers = rw (records-decide image taken, ← p); names = rw (records-name image taken, ← q) }
         all (suc n) s p q = absurd (omega arith)
 
--- ---- the call where 1 or 6 is given: v is what these checks said
+-- ---- the call if 1 or 6 is given: v is what these checks said
 pub judges-refused : (image : List ℕ) {v : Checked} {r : Refusal} → checked v ≡ sized image → v ≡ CheckRefused r → Judges image (Refused r)
 unfolding takesImage badRecord
 judges-refused image e q =

@@ -1,11 +1,12 @@
--- The layout of a record of 96 bytes: how the code finds the first byte that breaks it, and which records are good.
+-- The layout of a record of 96 bytes: how the code finds the first byte that breaks it, and which
+-- records are good.
 --
--- In order: the lengths of the label and of what stands behind it (`label-length`, `behind-length`); the ways in which the judge of a record
--- returns (`fault-long`, `fault-spare`, `fault-ill`, `fault-tail`, `fault-none`); a good record (`Good`, `layout-good`, `good-layout`); a record
--- that was written is good (`record-good`, `written-passes`), and a good one is what writing makes of what reading finds in it (`object-below`,
--- `berth-below`, `good-back`, `record-back`); so THE GOOD RECORDS ARE THOSE THAT WRITING MAKES (`good-written`).
--- Not here: the first ill-formed subpart and the first byte that is not zero (proofs/Places), a record in its image (proofs/Images).
--- Assumes nothing.
+-- In order: the lengths of the label and of what comes after it (`label-length`, `behind-length`);
+-- the returns of the judge of a record (`fault-long`, `fault-spare`, `fault-ill`, `fault-tail`,
+-- `fault-none`); a good record (`Good`, `layout-good`, `good-layout`); a record that was written is
+-- good (`record-good`, `written-passes`), and a good one is what writing makes of what reading
+-- finds in it (`object-below`, `berth-below`, `good-back`, `record-back`). So THE GOOD RECORDS ARE
+-- THOSE THAT WRITING MAKES (`good-written`).
 use mathlib.Core.Path.{_≡_, sym, _∙_, ap}
 use mathlib.Core.Logic.{_↔_}
 use mathlib.Core.List.{List, [], _∷_, _++_}
@@ -18,10 +19,9 @@ use borrow.Author.Tests.{lt-ltb, le-ltb, ltb-false, eq-eqb, ne-eqb, eqb-true}
 use Rattle.laws.specs.Lists.{All}
 use Rattle.laws.proofs.Lists.{all-left, all-right}
 use Rattle.answers.specs.Checks.{passes, inOrder}
-use Rattle.utf8.specs.Utf8.{illText}
-use Rattle.labels.specs.Records.{highFirst, zeros, recordOf, objectOf, berthOf, sizeOf, labelOf, behindLabel}
-use Rattle.labels.specs.Records.{firstIll, firstSet, tooLong, notSpare, illFormed, tailSet, layout, Written}
-use Rattle.labels.specs.Steps.{faulty}
+use Rattle.utf8.specs.Utf8.{illText, firstIll}
+use Rattle.labels.specs.Records.{highFirst, zeros, recordOf, objectOf, berthOf, sizeOf, labelOf, behindLabel, firstSet, tooLong, notSpare, illFormed, tailSet, layout, Written}
+use Rattle.labels.specs.Inner.{faulty}
 use Rattle.labels.proofs.Numbers.{high-number, number-below}
 use Rattle.labels.proofs.Records.{record-size, record-label, record-spare, record-behind}
 use Rattle.answers.proofs.Orders.{order-first, order-rest, passes-true, passes-false}
@@ -41,7 +41,7 @@ module _ (bytes : List ℕ) where
   fault-spare short h = simp (le-ltb 88 (sizeOf bytes) short, ne-eqb (getD bytes 7 0) 0 h)
 
 module _ (bytes : List ℕ) (size : length bytes ≡ 96) (short : sizeOf bytes ≤ 88) where
-  -- the label is as long as the length byte says, and the rest of the record stands behind it
+  -- the label is as long as the length byte says, and the rest of the record comes after it
   pub label-length : length (labelOf bytes) ≡ sizeOf bytes
   unfolding labelOf
   label-length = length-take-le (sizeOf bytes) (drop 8 bytes) (omega (arith, length-drop 8 bytes))
@@ -74,7 +74,7 @@ module _ (bytes : List ℕ) (size : length bytes ≡ 96) (short : sizeOf bytes �
       well : length (labelOf bytes) ≤ firstIll (labelOf bytes)
       well = omega (arith, found, label-length)
 
-      -- a byte behind the label is not zero
+      -- a byte after the label is not zero
       pub fault-tail : s < 96 → layout bytes ≡ faulty s
       unfolding layout faulty
       fault-tail h =
@@ -102,7 +102,8 @@ module _ (bytes : List ℕ) (size : length bytes ≡ 96) (short : sizeOf bytes �
 
 -- ---- a good record
 
--- its length byte is at most 88, byte 7 is zero, its label is well-formed, and only zeros stand behind it
+-- its length byte is at most 88, byte 7 is zero, its label is well-formed, and only zeros come
+-- after it
 pub record Good (bytes : List ℕ) : Type 0 where
   pub short : sizeOf bytes ≤ 88
   pub spare : getD bytes 7 0 ≡ 0
@@ -143,7 +144,7 @@ module _ (bytes : List ℕ) (e : layout bytes ≡ passes) where
       (passes-false (ltb (firstSet (behindLabel bytes)) (length (behindLabel bytes))) 7 (8 + sizeOf bytes + firstSet (behindLabel bytes))
       (order-first (tailSet bytes) [] (order-rest (illFormed bytes) (tailSet bytes ∷ []) after-second))))
 
--- 96 bytes keep the layout exactly where they are a good record
+-- 96 bytes keep the layout if and only if they are a good record
 pub layout-good : (bytes : List ℕ) → length bytes ≡ 96 → layout bytes ≡ passes → Good bytes
 layout-good bytes size e = record {
   short = good-short bytes e;
@@ -243,8 +244,8 @@ pub record-back : (bytes : List ℕ) → length bytes ≡ 96 → All (λ b. b < 
     → recordOf (objectOf bytes) (berthOf bytes) (labelOf bytes) ≡ bytes
 record-back bytes size all e = good-back bytes size all (layout-good bytes size e)
 
--- THE GOOD RECORDS ARE THOSE THAT WRITING MAKES: 96 bytes keep the layout exactly where they are the record of some object, some berth and some
--- well-formed label of at most 88 bytes
+-- THE GOOD RECORDS ARE THOSE THAT WRITING MAKES: 96 bytes keep the layout if and only if they are
+-- the record of some object, some berth and some well-formed label of at most 88 bytes
 pub good-written : (bytes : List ℕ) → length bytes ≡ 96 → All (λ b. b < 256) bytes → (layout bytes ≡ passes) ↔ Written bytes
 good-written bytes size all = (
   (λ e. let g = layout-good bytes size e in record {

@@ -1,8 +1,9 @@
--- A record's label, entry and berth, of any image. In order: where the label's length stands (`size-at`); no such record (`label-none`, `entry-none`), a
--- length over 88 (`label-long`), and else the label and the entry (`label-is`, `entry-part`); the berth is the entry's (`berth-entry`); no label is over
--- 88 bytes (`label-short`).
--- Not here: reading a record that was judged (proofs/Finding). Assumes nothing.
-use mathlib.Core.Path.{_≡_, refl, sym, _∙_, ap}
+-- A record's label, entry and berth, of any image.
+--
+-- In order: where the label's length is (`size-at`); there is no such record (`label-none`,
+-- `berth-none`); the length is over 88 (`label-long`); else the label (`label-is`), the entry
+-- (`entry-part`) and its berth (`berth-entry`); no label is over 88 bytes (`label-short`).
+use mathlib.Core.Path.{_≡_, refl, _∙_, ap}
 use mathlib.Core.Bool.{Bool, true, false, cond, _&&_}
 use mathlib.Core.List.{List, []}
 use Prim.Native.Nat.{ℕ, _+_, _-_, _*_, _≤_, _<_}
@@ -12,9 +13,9 @@ use lib.ListN.{length, getD, take, drop, length-take, length-drop}
 use lib.Seq.{getD-take, getD-drop, drop-drop}
 use borrow.Author.Tests.{lt-ltb, le-ltb, le-leb, lt-leb, leb-true}
 use Rattle.laws.proofs.Bools.{and-right}
-use Rattle.labels.specs.Records.{berthOf, sizeOf, labelOf, entryOf}
-use Rattle.labels.specs.Images.{countOf, recordAt, labelAt, berthAt, entryAt}
-use Rattle.labels.specs.declared.layout.Entry.{Entry}
+use Rattle.labels.specs.Records.{sizeOf, labelOf, entryOf}
+use Rattle.labels.specs.Images.{countOf, recordAt, labelAt, berthAt}
+use Rattle.labels.specs.declared.record.Entry.{Entry}
 use Rattle.labels.proofs.Finding.{from-eighth}
 
 module _ (image : List ℕ) (k : ℕ) where
@@ -26,9 +27,9 @@ module _ (image : List ℕ) (k : ℕ) where
   unfolding labelAt
   label-none h = rw (le-ltb k (countOf image) h)
 
-  pub entry-none : countOf image ≤ k → _≡_ {A = Entry} (record { object = 0; berth = 0; length = 0 }) (entryAt image k)
-  unfolding entryAt
-  entry-none h = rw (le-ltb k (countOf image) h)
+  pub berth-none : countOf image ≤ k → 0 ≡ berthAt image k
+  unfolding berthAt
+  berth-none h = rw (le-ltb k (countOf image) h)
 
   module _ (has : k < countOf image) where
     pub label-long : 88 < getD image (96 * k + 6) 0 → [] ≡ labelAt image k
@@ -48,19 +49,15 @@ module _ (image : List ℕ) (k : ℕ) where
         let m : 96 * k + 8 + getD image (96 * k + 6) 0 - (96 * k + 8) ≡ getD image (96 * k + 6) 0 = omega arith in
         rw (lt-ltb k (countOf image) has, size-at, le-leb (getD image (96 * k + 6) 0) 88 h, m, ← drop-drop 8 (96 * k) image) (label-bytes h)
 
-    pub entry-part : {entry : Entry} → entry ≡ entryOf (take (96 * k + 96 - 96 * k) (drop (96 * k) image)) → entry ≡ entryAt image k
-    unfolding entryAt recordAt
+    pub entry-part : {entry : Entry} → entry ≡ entryOf (take (96 * k + 96 - 96 * k) (drop (96 * k) image)) → entry ≡ entryOf (recordAt image k)
+    unfolding recordAt
     entry-part e =
         let n : 96 * k + 96 - 96 * k ≡ 96 = omega arith in
-        e ∙ rw (lt-ltb k (countOf image) has, n)
+        rw n at e
 
-  pub berth-entry : {entry : Entry} → entry ≡ entryAt image k → entry .berth ≡ berthAt image k
-  unfolding entryAt berthAt
-  berth-entry e = ap (λ (x : Entry). x .berth) e ∙ by (ltb k (countOf image))
-    where
-      by : (b : Bool) → cond b (entryOf (recordAt image k)) (record { object = 0; berth = 0; length = 0 }) .berth ≡ cond b (berthOf (recordAt image k)) 0
-      by true = refl
-      by false = refl
+    pub berth-entry : {entry : Entry} → entry ≡ entryOf (recordAt image k) → entry .berth ≡ berthAt image k
+    unfolding berthAt
+    berth-entry e = ap (λ (x : Entry). x .berth) e ∙ rw (lt-ltb k (countOf image) has)
 
   -- no label is over 88 bytes, whatever the image
   pub label-short : length (labelAt image k) ≤ 88

@@ -1,10 +1,9 @@
--- What the answer about a whole image says of its records, over the contract `Judges`.
+-- What the answer about a whole image says of its records, from the contract `Judges`.
 --
--- In order: where a verdict names a record, the checks 1 and 6 passed (`names-passed`); the first record that breaks its layout, from an index on
--- (`lowest-from`), and none (`none-from`); THE RECORD NAMED IS THE LOWEST BAD ONE (`bad-lowest`), and where none is named all are good
+-- In order: if an answer names a record, the checks 1 and 6 passed (`names-passed`); the first
+-- record from an index on that breaks its layout (`lowest-from`), and none (`none-from`); THE
+-- RECORD NAMED IS THE LOWEST BAD ONE (`bad-lowest`), and if none is named all are good
 -- (`records-good`).
--- Not here: that any two answers are equal (proofs/Calls).
--- Assumes nothing.
 use mathlib.Core.Path.{_≡_, refl, sym, _∙_}
 use mathlib.Core.Option.{Option, none, some}
 use mathlib.Core.List.{List, [], _∷_}
@@ -94,14 +93,15 @@ module _ (image : List ℕ) where
       (sym (order-one (layoutsFrom image 0 (countOf image)))
       ∙ sym (order-passed (overImage image ∷ noImage image ∷ []) (layoutsFrom image 0 (countOf image) ∷ []) (named .0)) ∙ all)
 
-  -- THE RECORD NAMED IS THE LOWEST BAD ONE: it stands in the image and breaks its layout first at the byte named, and every record before it is good
+  -- THE RECORD NAMED IS THE LOWEST BAD ONE: it is in the image, the byte named is the first that
+  -- breaks its layout, and every record before it is good
   pub bad-lowest : {k b : ℕ} → Judges image (BadRecord k b)
       → (k < countOf image) × (layout (recordAt image k) ≡ refuses 7 b) × ((j : ℕ) → j < k → layout (recordAt image j) ≡ passes)
   bad-lowest f =
       let l = judged-lowest f in
       (omega (arith, l .inside), l .breaks, λ j h. l .before j (omega arith) h)
 
-  -- and where the answer is how many records there are, every one is good
+  -- and if the answer is how many records there are, every one is good
   pub records-good : {n : ℕ} → Judges image (Records n) → (n ≡ countOf image) × ((j : ℕ) → j < n → layout (recordAt image j) ≡ passes)
   unfolding takesImage
   records-good {n} f =

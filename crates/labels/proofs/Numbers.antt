@@ -1,15 +1,14 @@
--- Numbers in bytes, high byte first: what is written is read again, and what is read is written again.
+-- Numbers in bytes, high byte first: what is written is read again, and what is read is written
+-- again.
 --
--- In order: a number in n bytes is n bytes (`high-length`), each below 256 (`high-bytes`), and all above them is left out (`high-more`); bytes are
--- a number below 256 to the power of how many they are (`number-below`); THE ROUND TRIPS (`number-high`, `high-number`); the numbers of four and of
--- two bytes as the code has them (`four-bytes`, `two-bytes`, `number-four`, `number-two`).
--- Not here: where in a record they stand (proofs/Layouts).
--- Assumes nothing.
+-- In order: a number in n bytes is n bytes long (`high-length`), each is below 256 (`high-bytes`),
+-- and what does not fit is left out (`high-more`); n bytes are a number below 256 to the power of n
+-- (`number-below`); THE ROUND TRIPS (`number-high`, `high-number`); four bytes and two bytes as the
+-- code has them (`four-bytes`, `two-bytes`, `number-four`, `number-two`).
 use mathlib.Core.Path.{_≡_, refl, sym, _∙_, ap}
 use mathlib.Core.List.{List, [], _∷_}
 use Prim.Native.Nat.{ℕ, zero, suc, _+_, _*_, _/_, _%_, _^_, _<_}
-use native.Mathlib.Nat.{pow-suc, mod-lt, mod-eq-of-lt, div-add-mod', div-eq-of-lt, div-one, mul-add-div-right, mul-add-mod-self-right}
-use native.Mathlib.Nat.{div-lt-iff-lt-mul, mul-assoc, mul-comm, mul-le-mul-right, suc-mul, add-zero, one-le-pow}
+use native.Mathlib.Nat.{pow-suc, mod-lt, mod-eq-of-lt, div-add-mod', div-eq-of-lt, div-one, mul-add-div-right, mul-add-mod-self-right, div-lt-iff-lt-mul, mul-assoc, mul-comm, mul-le-mul-right, suc-mul, add-zero, one-le-pow}
 use native.Mathlib.Omega.{arith}
 use lib.ListN.{length}
 use Rattle.laws.specs.Lists.{All, none, also}

@@ -1,10 +1,8 @@
 -- The first ill-formed subpart of a text, and the first byte that is not zero.
 --
--- In order: the first ill-formed subpart is before the end exactly where there is one (`ill-none`, `ill-some`, `formed-end`); what a loop that
--- looks for the first byte that is not zero keeps, at an index (`set-next`, `set-here`, `set-end`), and that there is none exactly in zeros
--- (`set-zeros`, `zeros-set`).
--- Not here: a loop that looks for an ill-formed subpart (crate labels_ill), what they say of a record (proofs/Layouts).
--- Assumes nothing.
+-- In order: the first ill-formed subpart is before the end if and only if there is one (`ill-none`,
+-- `ill-some`, `formed-end`); a loop that looks for the first byte that is not zero, at its index
+-- (`set-next`, `set-here`, `set-end`); only zeros have no such byte (`set-zeros`, `zeros-set`).
 use mathlib.Core.Path.{_≡_, refl, ap}
 use mathlib.Core.Bool.{Bool, true, false, cond}
 use mathlib.Core.List.{List, [], _∷_}
@@ -19,11 +17,11 @@ use Rattle.laws.specs.Pieces.{Piece, illCount}
 use Rattle.laws.specs.Readings.{Reading, nothing, formed, broken}
 use Rattle.laws.proofs.Bools.{test}
 use Rattle.utf8.specs.Table37.{kindOf}
-use Rattle.utf8.specs.Utf8.{illText}
+use Rattle.utf8.specs.Utf8.{illText, illIn, firstIll}
 use Rattle.utf8.proofs.Reading.{reading8, maximal-some}
-use Rattle.labels.specs.Records.{zeros, illIn, firstIll, firstSet}
+use Rattle.labels.specs.Records.{zeros, firstSet}
 
--- ---- the first ill-formed subpart: before the end exactly where there is one
+-- ---- the first ill-formed subpart: before the end if and only if there is one
 
 reading-none : {t : List ℕ} {P : List (Piece ℕ)} → Reading kindOf t P → illCount P ≡ 0 → illIn P ≡ length t
 reading-none nothing e = refl

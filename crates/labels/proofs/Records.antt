@@ -1,9 +1,8 @@
 -- A record that was written: how long it is, and what reading finds in it.
 --
--- In order: its length (`record-length`), its object, berth, size and label (`record-object`, `record-berth`, `record-size`, `record-label`), its
--- spare byte and what stands behind the label (`record-spare`, `record-behind`).
--- Not here: numbers in bytes (proofs/Numbers), which records are good (proofs/Layouts), how the code makes it (proofs/Storing).
--- Assumes nothing.
+-- In order: its length (`record-length`); its object, berth, size and label (`record-object`,
+-- `record-berth`, `record-size`, `record-label`); its spare byte and what comes after the label
+-- (`record-spare`, `record-behind`).
 use mathlib.Core.Path.{_≡_, refl, sym, _∙_}
 use mathlib.Core.List.{List}
 use Prim.Native.Nat.{ℕ, _-_, _^_, _≤_, _<_}
@@ -19,7 +18,8 @@ module _ (object berth : ℕ) (label : List ℕ) where
   unfolding recordOf highFirst
   record-length h = simp (length-append, length-replicate) (omega arith)
 
-  -- WHAT READING FINDS in a record that was written: its object and its berth, where four bytes and two can hold them
+  -- WHAT READING FINDS in a record that was written: its object and its berth, if four bytes and
+  -- two can hold them
   pub record-object : object < 2 ^ 32 → objectOf (recordOf object berth label) ≡ object
   unfolding recordOf highFirst objectOf
   record-object h = number-high 4 object h
@@ -37,7 +37,7 @@ module _ (object berth : ℕ) (label : List ℕ) where
   unfolding recordOf highFirst labelOf
   record-label = take-append-seam label (zeros (88 - length label))
 
-  -- byte 7 is zero, and so is what stands behind the label
+  -- byte 7 is zero, and so are the bytes after the label
   pub record-spare : getD (recordOf object berth label) 7 0 ≡ 0
   unfolding recordOf highFirst
   record-spare = refl

@@ -1,11 +1,11 @@
 -- Writing a record into its place in an image.
 --
--- In order: a fresh record filled (`started`, `record-made`), copied over its place (`put-whole`) in the image (`put-placed`);
--- bytes that are stored or too many (`stores-refused`, `stores-done`), and those that a label joins to (`joined-refused`, `joined-count`,
--- `joined-fits`, `joined-most`, `joined-done`); the checks 1, 1 and 6 (`places-over`, `places-label`, `places-number`, `stored-inside`,
--- `stored-taken`); and the ways in which the call returns (`writes-refused`, `writes-ill`, `writes-given`, `writes-joined`).
--- Not here: what a record is (proofs/Records), what the answers say (proofs/Calls).
--- Assumes nothing.
+-- In order: a fresh record filled (`started`, `label-fits`, `record-made`), copied over its place
+-- (`put-whole`) in the image (`put-placed`); bytes that are stored or too many (`stores-refused`,
+-- `stores-done`), and those that a label joins to (`joined-refused`, `joined-count`, `joined-fits`,
+-- `joined-most`, `joined-done`); the checks 1, 1 and 6 (`places-over`, `places-label`,
+-- `places-number`, `stored-inside`, `stored-taken`); and the ways in which the call returns
+-- (`writes-refused`, `writes-ill`, `writes-given`, `writes-joined`).
 use mathlib.Core.Path.{_≡_, refl, sym, _∙_, ap}
 use mathlib.Core.List.{List, [], _∷_, _++_, append-nil}
 use Prim.Native.Nat.{ℕ, zero, suc, _+_, _-_, _*_, _/_, _%_, _^_, _≤_, _<_}
@@ -19,29 +19,28 @@ use Rattle.laws.specs.Writing.{front}
 use Rattle.laws.proofs.Bools.{test}
 use Rattle.answers.specs.Checks.{Check, passes, refuses, inOrder, takesBytes}
 use Rattle.answers.specs.Answers.{checked}
-use Rattle.answers.specs.declared.Refusal.{Refusal}
-use Rattle.answers.specs.declared.Refusal.the-variants.{NoRoom, BadLayout}
-use Rattle.answers.specs.declared.Checked.{Checked}
-use Rattle.answers.specs.declared.Checked.the-variants.{Passed, Refused}
+use Rattle.answers.specs.declared.refusal.Refusal.{Refusal}
+use Rattle.answers.specs.declared.refusal.Refusal.the-variants.{NoRoom, BadLayout}
+use Rattle.answers.specs.declared.answer.Checked.{Checked}
+use Rattle.answers.specs.declared.answer.Checked.the-variants.{Passed, Refused}
 use Rattle.answers.proofs.Verdicts.{refused-room}
-use Rattle.utf8.specs.Utf8.{illText}
+use Rattle.utf8.specs.Utf8.{illText, firstIll}
 use Rattle.utf8.specs.Reading.{Reads, countedOf}
-use Rattle.utf8.specs.declared.read.Counted.{Counted}
-use Rattle.utf8.specs.declared.read.Read.{Read}
-use Rattle.utf8.specs.declared.read.Read.the-variants.{Done, Refused as ReadRefused}
+use Rattle.utf8.specs.declared.text.Counted.{Counted}
+use Rattle.utf8.specs.declared.text.Read.{Read}
+use Rattle.utf8.specs.declared.text.Read.the-variants.{Done, Refused as ReadRefused}
 use Rattle.utf8.proofs.Reading.{reads-unique}
 use Rattle.mending.specs.Mending.{mended}
 use Rattle.mending.proofs.Round.{call-done}
-use Rattle.labels.specs.Records.{zeros, freshRecord, recordOf, firstIll}
+use Rattle.labels.specs.Records.{zeros, freshRecord, recordOf}
 use Rattle.labels.specs.Images.{replaced, overImage, noRecord, stored, noLabel, takesWriting, Writes}
-use Rattle.labels.specs.Steps.{copied, tooMany, Stores}
-use Rattle.labels.specs.declared.image.Form.{Form}
-use Rattle.labels.specs.declared.image.Form.the-variants.{AsGiven, Joined}
+use Rattle.labels.specs.Inner.{tooMany, Stores}
+use Rattle.labels.specs.declared.write.Form.{Form}
+use Rattle.labels.specs.declared.write.Form.the-variants.{AsGiven, Joined}
 use Rattle.labels.proofs.Numbers.{four-bytes, two-bytes}
 use Rattle.labels.proofs.Records.{record-length}
 use Rattle.answers.proofs.Orders.{order-first, order-rest, order-one, order-refused, order-passed}
 use Rattle.labels.proofs.Places.{ill-none, formed-end}
-use Rattle.labels.proofs.Copies.{copied-front}
 use Rattle.labels.proofs.Images.{image-over, image-within, number-inside}
 
 -- ---- a fresh record filled
@@ -70,24 +69,27 @@ module _ (object berth : ℕ) (label fresh : List ℕ) where
   unfolding freshRecord recordOf
   made h k f e = rw (e, f, four-bytes object h, two-bytes berth k, append-nil, drop-zeros (length label) 88)
 
+  -- there is room for it
+  pub label-fits : length label ≤ 88 → fresh ≡ freshRecord → length label ≤ length (take 88 (drop 8 (started fresh object berth (length label))))
+  unfolding freshRecord
+  label-fits short f = rw f short
+
   pub record-made : length label ≤ 88 → object < 2 ^ 32 → berth < 2 ^ 16 → fresh ≡ freshRecord
-      → {last : List ℕ} → last ≡ copied label (take 88 (drop 8 (started fresh object berth (length label))))
+      → {last : List ℕ} → last ≡ front label (take 88 (drop 8 (started fresh object berth (length label))))
       → (96 ≡ length (putMid 8 88 (started fresh object berth (length label)) last))
       × (putMid 8 88 (started fresh object berth (length label)) last ≡ recordOf object berth label)
   unfolding freshRecord
   record-made short h k f e =
-      let place = take 88 (drop 8 (started fresh object berth (length label))) in
-      let size : length place ≡ 88 = rw f refl in
-      let whole = made h k f (e ∙ copied-front label place (omega (arith, size))) in
+      let whole = made h k f e in
       (sym (ap length whole ∙ record-length object berth label short), whole)
 
 -- ---- in its place
 
 -- bytes of a record copied over a record's place are all of it
-pub put-whole : (place bytes whole : List ℕ) → length place ≡ 96 → 96 ≡ length bytes → bytes ≡ whole → {place′ : List ℕ} → place′ ≡ copied bytes place
+pub put-whole : (place bytes whole : List ℕ) → length place ≡ 96 → 96 ≡ length bytes → bytes ≡ whole → {place′ : List ℕ} → place′ ≡ front bytes place
     → place′ ≡ whole
 put-whole place bytes whole size e f q =
-    q ∙ copied-front bytes place (omega arith) ∙ ap (λ (l : List ℕ). bytes ++ l) (drop-of-length-le place {i = length bytes} (omega arith)) ∙ append-nil bytes ∙ f
+    q ∙ ap (λ (l : List ℕ). bytes ++ l) (drop-of-length-le place {i = length bytes} (omega arith)) ∙ append-nil bytes ∙ f
 
 -- the place is the record's in the image
 pub put-placed : (image : List ℕ) (k : ℕ) (bytes : List ℕ) {place : List ℕ} → place ≡ bytes
@@ -114,7 +116,7 @@ not-done : {c : Counted} {r : Refusal} → Done c ≡ ReadRefused r → ⊥
 not-done e = let z : _≡_ {A = ℕ} 0 1 = cc in omega arith
 
 module _ (label out : List ℕ) (taken : takesBytes label ≡ passes) {r : Read} {out′ : List ℕ} (made : Reads mended label out r out′) where
-  -- it is refused where there is no room
+  -- it is refused if there is no room
   joined-long : 88 ≤ length out → {refusal : Refusal} → r ≡ ReadRefused refusal → 88 < length (mended label)
   joined-long h q =
       test (ltb 88 (length (mended label))) (λ e. ltb-true 88 (length (mended label)) e)

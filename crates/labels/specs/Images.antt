@@ -1,5 +1,6 @@
--- A file image: document 01, 'The label file', 'Refusal numbers': 0 to 682 records of 96 bytes, one behind the other. What its calls check, in the paper's
--- order, and what they answer and leave. Not here: a record by itself (specs/Records). Assumes nothing.
+-- A file image: 0 to 682 records of 96 bytes, one after the other (document 01, 'The label file'
+-- and 'Refusal numbers'). This file says what the calls on an image check, in the paper's order,
+-- what they answer, and what they leave.
 use mathlib.Core.Path.{_≡_}
 use mathlib.Core.Bool.{cond, _&&_}
 use mathlib.Core.Option.{Option, none, some}
@@ -10,17 +11,17 @@ use lib.ListN.{length, take, drop}
 use Rattle.answers.specs.Checks.{Check, passes, refuses, inOrder, overLimit, takesBytes}
 use Rattle.answers.specs.Verdicts.{Verdict, done, refused, verdict, Fills}
 use Rattle.answers.specs.Answers.{refusedBy, checked}
-use Rattle.answers.specs.declared.Checked.{Checked}
+use Rattle.answers.specs.declared.answer.Checked.{Checked}
 use Rattle.utf8.specs.Utf8.{illText}
 use Rattle.mending.specs.Mending.{mended}
 use Rattle.labels.specs.Records.{recordOf, berthOf, sizeOf, labelOf, entryOf, layout}
-use Rattle.labels.specs.declared.layout.Entry.{Entry}
-use Rattle.labels.specs.declared.image.Found.{Found}
-use Rattle.labels.specs.declared.image.Found.the-variants.{Record, Refused as FoundRefused}
+use Rattle.labels.specs.declared.record.Entry.{Entry}
+use Rattle.labels.specs.declared.read.Found.{Found}
+use Rattle.labels.specs.declared.read.Found.the-variants.{Record, Refused as FoundRefused}
 use Rattle.labels.specs.declared.image.Judged.{Judged}
 use Rattle.labels.specs.declared.image.Judged.the-variants.{Records, Refused, BadRecord}
-use Rattle.labels.specs.declared.image.Form.{Form}
-use Rattle.labels.specs.declared.image.Form.the-variants.{AsGiven, Joined}
+use Rattle.labels.specs.declared.write.Form.{Form}
+use Rattle.labels.specs.declared.write.Form.the-variants.{AsGiven, Joined}
 
 -- ---- the records of an image
 
@@ -34,16 +35,14 @@ recordAt image k = take 96 (drop (96 * k) image)
 unfoldable pub replaced : List ℕ → ℕ → List ℕ → List ℕ
 replaced image k bytes = take (96 * k) image ++ (bytes ++ drop (96 * k + 96) image)
 
--- a record's label and berth, of any image: no label where it has not that record, or the record's length is over 88; and no berth
+-- a record's label, of any image: none if the image does not have that record, or if its length is
+-- over 88
 unfoldable pub labelAt : List ℕ → ℕ → List ℕ
 labelAt image k = cond (ltb k (countOf image) && leb (sizeOf (recordAt image k)) 88) (labelOf (recordAt image k)) []
 
+-- its berth: 0 if the image does not have that record
 unfoldable pub berthAt : List ℕ → ℕ → ℕ
 berthAt image k = cond (ltb k (countOf image)) (berthOf (recordAt image k)) 0
-
--- what it says beside its label: zeros where there is no such record
-unfoldable pub entryAt : List ℕ → ℕ → Entry
-entryAt image k = cond (ltb k (countOf image)) (entryOf (recordAt image k)) (record { object = 0; berth = 0; length = 0 })
 
 -- ---- what is checked
 
@@ -81,7 +80,8 @@ abbrev pub foundAs : Found → Verdict Entry
 foundAs (Record entry) = done entry
 foundAs (FoundRefused r) = refusedBy r
 
--- THE CONTRACT of reading one record: the label fills the buffer, and the answer is object, berth and the label's length
+-- THE CONTRACT of reading one record: the label fills the buffer, and the answer is object, berth
+-- and the label's length
 pub record Finds (image : List ℕ) (k : ℕ) (out : List ℕ) (r : Found) (out′ : List ℕ) : Type 0 where
   pub fills : Fills (takesRecord image k) (labelOf (recordAt image k)) (entryOf (recordAt image k)) out (foundAs r) out′
 
@@ -90,7 +90,7 @@ pub record Finds (image : List ℕ) (k : ℕ) (out : List ℕ) (r : Found) (out�
 unfoldable pub takesImage : List ℕ → Check
 takesImage image = inOrder (overImage image ∷ noImage image ∷ layoutsFrom image 0 (countOf image) ∷ [])
 
--- the record that 7 is given for: none where 1 or 6 is given
+-- the record that 7 is given for: none if 1 or 6 is given
 abbrev pub onlyIf : {A : Type 0} → Check → Option A → Option A
 onlyIf passes found = found
 onlyIf (refuses number place) found = none
@@ -109,7 +109,8 @@ namedBy (Records count) = none
 namedBy (Refused r) = none
 namedBy (BadRecord number byte) = some number
 
--- THE CONTRACT of reading a whole image: how many records it has; of refusal 7 also which record is the lowest bad one
+-- THE CONTRACT of reading a whole image: how many records it has; of refusal 7 also which record is
+-- the lowest bad one
 pub record Judges (image : List ℕ) (r : Judged) : Type 0 where
   pub answers : judgedAs r ≡ verdict (takesImage image) (countOf image)
   pub names : namedBy r ≡ badRecord image

@@ -1,5 +1,5 @@
--- Crate labels, specs/: a record of the label file, an image of it, and what the calls check and answer, lowest first.
--- Not here: any law or proof (proofs/).
+-- The definitions of crate labels, lowest first: a record of the label file, an image of it, what
+-- the calls check and answer, and what the private functions promise.
 pub mod Records
 pub mod Images
-pub mod Steps
+pub mod Inner

@@ -1,17 +1,16 @@
--- A record of the label file: document 01, 'The label file': 96 bytes: 0–3 drawing object, 4–5 berth number, both high byte first; 6 the label's length n,
--- 0 to 88; 7 zero; 8–95 n bytes of well-formed UTF-8, then zeros. What writing makes (`recordOf`), what reading finds in it, and the first byte that
--- breaks the layout (`layout`). Not here: an image of records (specs/Images). Assumes nothing.
+-- A record of the label file has 96 bytes (document 01, 'The label file'): 0–3 the drawing object
+-- and 4–5 the berth number, both high byte first; 6 the label's length n, 0 to 88; 7 zero; 8–95 n
+-- bytes of well-formed UTF-8, then zeros. This file says what writing makes (`recordOf`), what
+-- reading finds, and which byte is the first that breaks the layout (`layout`).
 use mathlib.Core.Path.{_≡_}
 use mathlib.Core.Bool.{cond}
 use mathlib.Core.List.{List, [], _∷_, _++_}
 use Prim.Native.Nat.{ℕ, zero, suc, _+_, _-_, _*_, _/_, _%_, _^_, _≤_, _<_}
 use lib.Dec.{ltb, eqb}
 use lib.ListN.{length, getD, take, drop, replicate}
-use Rattle.laws.specs.Pieces.{Piece, good, ill, pieces}
 use Rattle.answers.specs.Checks.{Check, passes, refuses, inOrder}
-use Rattle.utf8.specs.Table37.{kindOf}
-use Rattle.utf8.specs.Utf8.{illText}
-use Rattle.labels.specs.declared.layout.Entry.{Entry}
+use Rattle.utf8.specs.Utf8.{illText, firstIll}
+use Rattle.labels.specs.declared.record.Entry.{Entry}
 
 -- ---- numbers, high byte first
 
@@ -58,21 +57,12 @@ entryOf bytes = record { object = objectOf bytes; berth = berthOf bytes; length 
 
 -- ---- THE LAYOUT
 
--- the index of the first ill-formed subpart, or the length of all pieces where there is none
-abbrev pub illIn : List (Piece ℕ) → ℕ
-illIn [] = 0
-illIn (good u ∷ P) = length u + illIn P
-illIn (ill u ∷ P) = 0
-
-unfoldable pub firstIll : List ℕ → ℕ
-firstIll text = illIn (pieces kindOf text)
-
--- the index of the first byte that is not zero, or the length where there is none
+-- the index of the first byte that is not zero, or the length if there is none
 unfoldable pub firstSet : List ℕ → ℕ
 firstSet [] = 0
 firstSet (b ∷ x) = cond (eqb b 0) (suc (firstSet x)) 0
 
--- 7, in document 01's order: the length, then byte 7, then the label, then what stands behind it
+-- 7, in document 01's order: the length, then byte 7, then the label, then the bytes after it
 abbrev pub tooLong : List ℕ → Check
 tooLong bytes = cond (ltb 88 (sizeOf bytes)) (refuses 7 6) passes
 

@@ -1,5 +1,5 @@
--- Laws of tests. In order: a goal by cases on a test with its equation in hand (`test`), a test as a type (`T-true`, `true-T`); what `a && b` and
--- `a || b` say of a and of b. Not here: tests of numbers (borrow.Author.Tests), the algebra of Bool (mathlib.Core.Bool). Assumes nothing.
+-- Laws of tests. In order: a goal by cases on a test with its equation in hand (`test`), a test as
+-- a type (`T-true`, `true-T`); what `a && b` and `a || b` say of a and of b.
 use mathlib.Core.Path.{_≡_, refl, sym, _∙_}
 use mathlib.Core.Bool.{Bool, true, false, not, _&&_, _||_, false≢true}
 use mathlib.Core.Logic.{_⊎_, inl, inr}

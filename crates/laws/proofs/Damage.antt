@@ -1,11 +1,11 @@
--- How far damage in the middle of a text reaches, proved once: for every encoding with `Leads` and every transformation with `Cuttable`, a mended
--- text ends with what its ending alone gives and starts with what its beginning alone gives (`keeps`), and it falls apart around each ill-formed part
--- (`around-ill`). Not here: that some encoding has `Leads` or some transformation `Cuttable`, and how a text is mended by a program. Of the places
--- nothing is used here but what proofs/Places says of them.
+-- How far damage in the middle of a text reaches, proved once: for every encoding with `Leads` and
+-- every transformation with `Cuttable`, a mended text ends with what its ending alone gives and
+-- starts with what its beginning alone gives (`keeps`), and it falls apart around each ill-formed
+-- part (`around-ill`). Of the places nothing is used here but what proofs/Places says of them.
 --
--- In order: code points of pieces put together (`codes-append`); the places are places of the text (`ending-is`, `beginning-is`); where mending may
--- be cut; the beginning (`begin`); ill-formed parts (`around-ill`); the ending (`end`); beginning and ending (`keeps`).
--- Assumes nothing.
+-- In order: code points of pieces put together (`codes-append`); the places are places of the text
+-- (`ending-is`, `beginning-is`); where mending may be cut; the beginning (`begin`); ill-formed
+-- parts (`around-ill`); the ending (`end`); beginning and ending (`keeps`).
 use mathlib.Core.Path.{_≡_, refl, sym, _∙_, ap}
 use mathlib.Core.List.{List, [], _∷_, _++_, append-assoc, append-nil}
 use Prim.Native.Nat.{ℕ}
@@ -22,7 +22,8 @@ pub codes-append : {A : Type 0} (e : Encoding A) (P Q : List (Piece A)) → code
 codes-append e [] Q = refl
 codes-append e (w ∷ P) Q = rw (codes-append e P Q)
 
--- ---- the places are places of the text: the ending is an end of it, and the beginning a start of it
+-- ---- the places are places of the text:
+-- the ending is an end of it, and the beginning a start of it
 
 module _ {A B : Type 0} (e : Encoding A) (m : Transformation B) where
   pub ending-is : (z : List A) → EndsWith z (ending e m z)
@@ -70,7 +71,8 @@ module _ {A B : Type 0} (e : Encoding A) (m : Transformation B) (cuttable : Cutt
       by (found p) = at p
       by (none h q) = (mend e m (b ++ y), rw (q, cuttable .empty))
 
-  -- ---- ILL-FORMED PARTS: around each, what all before it gives, what U+FFFD alone gives, what all behind it gives
+  -- ---- ILL-FORMED PARTS:
+  -- around each, what all before it gives, what U+FFFD alone gives, what all after it gives
 
   pub around-ill : (t : List A) (P : List (Piece A)) (u : List A) (Q : List (Piece A)) → pieces (e .kind) t ≡ P ++ ill u ∷ Q
       → (t ≡ unitsOf P ++ (u ++ unitsOf Q)) × (mend e m t ≡ mend e m (unitsOf P) ++ (m .make (0xFFFD ∷ []) ++ mend e m (unitsOf Q)))

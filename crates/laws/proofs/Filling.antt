@@ -1,23 +1,28 @@
--- Writing a list into a lent buffer, piece by piece. In order: a piece of what is left (`Piece`); pieces written one after the other (`Room`,
--- `Wrote`); what a loop that fills the front keeps (`Filling`): of `whole` all but `rest` is written, k elements, and behind these the buffer
--- is as it was; and what a loop that only counts keeps (`Counting`). Each law concludes what the next turn, or the return, asks.
--- Not here: the definitions (specs/Writing). Assumes nothing.
+-- Writing a list into a lent buffer, piece by piece. In order: a piece of what is left (`Piece`);
+-- pieces written one after the other (`Room`, `Wrote`), and those that fit (`fitted`); what a loop
+-- that fills the front keeps (`Filling`): of `whole` all but `rest` is written, k elements, and
+-- after these the buffer is as it was; and what a loop that only counts keeps (`Counting`). Each
+-- law concludes what the next turn, or the return, asks.
 use mathlib.Core.Path.{_≡_, refl, sym, ap, _∙_}
+use mathlib.Core.Bool.{Bool, true, false, cond}
 use mathlib.Core.List.{List, [], _∷_, _++_, append-assoc, append-nil}
 use Prim.Native.Nat.{ℕ, suc, _+_, _-_, _≤_, _<_}
 use native.Mathlib.Nat.{add-zero, add-suc, suc-add}
 use native.Mathlib.Numerals.{add-one}
 use native.Mathlib.Omega.{arith}
+use lib.Dec.{leb}
 use lib.ListN.{length, getD, drop, set, length-append, length-drop, drop-of-length-le}
 use lib.Seq.{sets, length-sets, drop-cons, set-at}
-use Rattle.laws.specs.Writing.{front, Room, Wrote, Fronts}
+use borrow.Author.Tests.{le-leb, lt-leb}
+use Rattle.laws.specs.Writing.{front, Room, fitted, Wrote, Fronts}
 use Rattle.laws.specs.Lists.{each}
 use Rattle.laws.specs.Machines.{Machine, from}
 use Rattle.laws.proofs.Lists.{each-next, each-end}
 
 -- ---- a piece
 
--- what is left begins with xs, and then rest is left: a record, so that antt finds xs and rest by itself
+-- what is left begins with xs, and then rest is left: a record, so that antt finds xs and rest by
+-- itself
 pub record Piece {A : Type 0} (left xs rest : List A) : Type 0 where
   pub eq : left ≡ xs ++ rest
 
@@ -25,8 +30,8 @@ pub each-piece : {A B : Type 0} (f : A → List B) (d : A) (l : List A) (i : ℕ
     → Piece (each f (drop i l)) (f (getD l i d)) (each f (drop (i + 1) l))
 each-piece f d l i h = record { eq = each-next f d l i h }
 
--- what a machine gives from here on: what it emits at i, and then what it gives behind it; t and xs are the next state and what is emitted, as the code
--- has them. At the end, what is flushed
+-- what a machine gives from here on: what it emits at i, and then what it gives after it; t and xs
+-- are the next state and what is emitted, as the code has them. At the end, what is flushed
 module _ {S A B : Type 0} (m : Machine S A B) where
   pub machine-piece : {s t : S} {xs : List B} (d : A) (l : List A) (i : ℕ) → i < length l → t ≡ m .step s (getD l i d) → xs ≡ m .emit s (getD l i d)
       → Piece (from m s (drop i l)) xs (from m t (drop (i + 1) l))
@@ -90,6 +95,41 @@ module _ {A : Type 0} where
   pub room-second : {all xs ys out out′ : List A} {at k : ℕ} → Room out at all → Piece all xs ys → Wrote out at xs k out′ → Room out′ k ys
   room-second h p w =
       record { fits = omega (arith, h .fits, simp length-append at (ap length (p .eq)), w .behind, simp length-sets at (ap length (w .holds))) }
+
+-- ---- fitted: all of a list, or nothing
+
+module _ {A : Type 0} where
+  fitted-all : (xs out : List A) (at : ℕ) → at + length xs ≤ length out → fitted xs out at ≡ xs
+  unfolding fitted
+  fitted-all xs out at h = rw (le-leb (at + length xs) (length out) h)
+
+  fitted-none : (xs out : List A) (at : ℕ) → length out < at + length xs → fitted xs out at ≡ []
+  unfolding fitted
+  fitted-none xs out at h = rw (lt-leb (at + length xs) (length out) h)
+
+  fitted-nil : (out : List A) (at : ℕ) → fitted [] out at ≡ []
+  unfolding fitted
+  fitted-nil out at = by (leb (at + 0) (length out))
+    where
+      by : (b : Bool) → cond {A = List A} b [] [] ≡ []
+      by true = refl
+      by false = refl
+
+  -- where there is room for xs, it was xs that was written
+  pub wrote-all : {xs out out′ : List A} {at r : ℕ} → Room out at xs → Wrote out at (fitted xs out at) r out′ → Wrote out at xs r out′
+  wrote-all {xs} {out} {at = at} h w = rw (fitted-all xs out at (h .fits)) at w
+
+  -- the same the other way round, as the code has it: `all` is nothing; it is xs, which fits, or
+  -- does not
+  pub wrote-empty : {all out : List A} {at : ℕ} → all ≡ [] → Wrote out at (fitted all out at) at out
+  wrote-empty {out = out} {at = at} e = rw e (wrote-none (fitted-nil out at))
+
+  pub wrote-fitted : {all xs out out′ : List A} {at r : ℕ} → all ≡ xs → at + length xs ≤ length out → Wrote out at all r out′
+      → Wrote out at (fitted all out at) r out′
+  wrote-fitted {all} {out = out} {at = at} e h w = rw (fitted-all all out at (omega (arith, ap length e))) w
+
+  pub wrote-unfitted : {all xs out : List A} {at : ℕ} → all ≡ xs → length out < at + length xs → Wrote out at (fitted all out at) at out
+  wrote-unfitted {all} {out = out} {at = at} e h = wrote-none (fitted-none all out at (omega (arith, ap length e)))
 
 -- ---- Filling
 

@@ -1,5 +1,5 @@
--- Crate laws, proofs/: the laws of lists, ranges, tables, strings, machines, pieces, readings, places, damage and writing, lowest first.
--- Not here: the definitions (specs/), and the proofs of the functions, which stand in folders of their own.
+-- The laws of crate laws. What a caller may cite is `pub mod`; functions' proofs have folders of
+-- their own.
 pub mod Bools
 pub mod Lists
 pub mod Ranges

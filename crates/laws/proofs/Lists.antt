@@ -1,6 +1,7 @@
--- Laws of lists that the libraries lack. In order: two lists that make nothing (`nil-left`, `nil-right`), one and two (`one-not-two`); one list cut in two ways, with fronts as
--- long (`cut-front`, `cut-back`) or with any (`Cuts`, `cuts`); then `All`, `each` (at a loop's index at the end) and `count`, a section each.
--- Not here: `append-assoc`, `append-nil` (mathlib.Core.List), `length-append` (lib.ListN), places by number (lib.Seq). Assumes nothing.
+-- Laws of lists that the libraries lack. In order: two lists that make nothing (`nil-left`,
+-- `nil-right`), one and two (`one-not-two`); one list cut in two ways, with fronts as long
+-- (`cut-front`, `cut-back`) or with any (`Cuts`, `cuts`); then `All`, `each` (at a loop's index at
+-- the end) and `count`, a section each.
 use mathlib.Core.Path.{_≡_, refl, sym, _∙_, ap}
 use mathlib.Core.Bool.{Bool, true, false, cond}
 use mathlib.Core.List.{List, [], _∷_, _++_, append-assoc, append-nil, cons≢nil}
@@ -36,7 +37,7 @@ module _ {A : Type 0} where
   pub cut-back : (u t x y : List A) → u ++ t ≡ x ++ y → length u ≡ length x → t ≡ y
   cut-back u t x y e h = sym (drop-append-seam u t) ∙ ap (drop (length u)) e ∙ drop-at x y (length u) (sym h)
 
-  -- one list cut in two ways: the second cut is not behind the first, or it is
+  -- one list cut in two ways: the second cut is not after the first, or it is
   pub data Cuts (u t x y : List A) : Type 0 where
     short : (z : List A) → u ≡ x ++ z → Cuts u t x y
     long : (a : A) (z : List A) → x ≡ u ++ a ∷ z → t ≡ a ∷ z ++ y → Cuts u t x y
@@ -126,7 +127,7 @@ module _ {A B : Type 0} (f : A → List B) where
   all-each-of h none = none
   all-each-of h (also {a = a} q p) = all-append (h a q) (all-each-of h p)
 
-  -- at a loop's index: what is left is what stands at i, and then what is left behind it
+  -- at a loop's index: what is left is what stands at i, and then what is left after it
   pub each-next : (d : A) (l : List A) (i : ℕ) → i < length l → each f (drop i l) ≡ f (getD l i d) ++ each f (drop (i + 1) l)
   unfolding each
   each-next d l i h = rw (add-one, drop-cons l i d h)

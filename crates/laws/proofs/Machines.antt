@@ -1,11 +1,11 @@
--- Laws of machines: reading a text in two parts, and where it may be cut. THE CUT LAW: before a fence what a machine writes falls apart into what it
--- writes of each part alone. Not here: a machine that a loop runs over a buffer, and any one machine.
+-- Laws of machines: reading a text in two parts, and where it may be cut. THE CUT LAW: before a
+-- fence what a machine writes falls apart into what it writes of each part alone.
 --
--- In order: two parts of a text (`outs-append`, `ends-append`, `from-append`, `from-outs`); one letter more at the end (`outs-snoc`, `ends-snoc`); the
--- cut law (`cut`); walls (`wall-fence`, `around`); cuts compose (`splits-after`); a machine that sees no difference between a letter and its parts
--- (`same-whole`); one machine behind another, and one that is fed parts (`from-behind`, `from-fed`); how much is written
--- (`outs-most`).
--- Assumes nothing.
+-- In order: two parts of a text (`outs-append`, `ends-append`, `from-append`, `from-outs`); one
+-- letter more at the end (`outs-snoc`, `ends-snoc`); the cut law (`cut`); walls (`wall-fence`,
+-- `around`); cuts compose (`splits-after`); a machine that sees no difference between a letter and
+-- its parts (`same-whole`); one machine behind another, and one that is fed parts (`from-behind`,
+-- `from-fed`); how much is written (`outs-most`).
 use mathlib.Core.Path.{_≡_, refl, sym, _∙_}
 use mathlib.Core.List.{List, [], _∷_, _++_, append-assoc, append-nil}
 use Prim.Native.Nat.{ℕ, _*_, _≤_}
@@ -57,7 +57,7 @@ module _ {S A B : Type 0} (m : Machine S A B) where
   pub wall-fence : (a : A) → Wall m a → Fence m a
   wall-fence a w = record { forgets = λ s. w .resets s ∙ sym (w .resets (m .start)); closes = w .closes }
 
-  -- around a wall: all before it, what it writes itself, all behind it
+  -- around a wall: all before it, what it writes itself, all after it
   pub around : (a : A) (x y : List A) → Wall m a → whole m (x ++ a ∷ y) ≡ whole m x ++ (m .emit (m .start) a ++ whole m y)
   around a x y w = rw (cut a y (wall-fence a w) x, w .resets (m .start))
 
@@ -67,7 +67,8 @@ pub splits-after : {A B C : Type 0} (g : List B → List C) (f : List A → List
     → Splits f z → Splits g (f z) → Splits (λ x. g (f x)) z
 splits-after g f z hf hg x = rw (hf x) (hg (f x))
 
--- ---- a letter a and its parts f a: where reading f a does what reading a does, a text and its parts give the same
+-- ---- a letter a and its parts f a:
+-- where reading f a does what reading a does, a text and its parts give the same
 
 pub same-whole : {S A B : Type 0} (m : Machine S A B) (f : A → List A)
     → ((s : S) (a : A) → outs m s (f a) ≡ m .emit s a) → ((s : S) (a : A) → ends m s (f a) ≡ m .step s a)
@@ -76,7 +77,8 @@ unfolding each
 same-whole m f o e [] s = refl
 same-whole m f o e (a ∷ x) s = rw (from-append m (f a) (each f x) s, o s a, e s a, same-whole m f o e x (m .step s a))
 
--- ---- one machine behind another: what is written is what the second writes of what the first writes
+-- ---- one machine behind another:
+-- what is written is what the second writes of what the first writes
 
 module _ {S T A B C : Type 0} (m : Machine S A B) (n : Machine T B C) where
   pub from-behind : (x : List A) (s : S) (t : T) → from (behind m n) (s, t) x ≡ from n t (from m s x)

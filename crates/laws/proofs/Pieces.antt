@@ -1,17 +1,16 @@
--- Laws of pieces: nothing is lost, lead units are fences, and what each kind of the next unit does to the pieces.
--- Not here: pieces cut in two (proofs/Seams), and that the pieces are the Unicode Standard's (proofs/Readings).
+-- Laws of pieces: nothing is lost, lead units are fences, and what each kind of the next unit does
+-- to the pieces.
 --
--- In order: units of pieces put together (`unitsOf-append`); nothing is lost (`unitsOf-from`, `unitsOf-pieces`); a unit that begins a piece is a fence
--- (`starts-fence`); the next unit, with nothing open (`open-full`, `open-part`, `open-bad`) and with something open (`goes-full`, `goes-part`,
--- `goes-bad`); ill-formed pieces counted (`illCount-append`).
--- Assumes nothing.
+-- In order: units of pieces put together (`unitsOf-append`); nothing is lost (`unitsOf-from`,
+-- `unitsOf-pieces`); a unit that begins a piece is a fence (`starts-fence`); the next unit, with
+-- nothing open (`open-full`, `open-part`, `open-bad`) and with something open (`goes-full`,
+-- `goes-part`, `goes-bad`); ill-formed pieces counted (`illCount-append`).
 use mathlib.Core.Path.{_≡_, refl, sym, _∙_}
 use mathlib.Core.List.{List, [], _∷_, _++_, append-assoc, append-nil}
 use Prim.Native.Nat.{_+_}
 use native.Mathlib.Omega.{arith}
 use Rattle.laws.specs.Machines.{from, Fence}
-use Rattle.laws.specs.Pieces.{Kind, full, part, bad, Piece, good, ill, unitsOf, made, left, madeAt, leftAt}
-use Rattle.laws.specs.Pieces.{cutEmit, cutStep, cutFlush, cutter, pieces, illCount, Starts}
+use Rattle.laws.specs.Pieces.{Kind, full, part, bad, Piece, good, ill, unitsOf, made, left, madeAt, leftAt, cutEmit, cutStep, cutFlush, cutter, pieces, illCount, Starts}
 
 pub unitsOf-append : {A : Type 0} (P Q : List (Piece A)) → unitsOf (P ++ Q) ≡ unitsOf P ++ unitsOf Q
 unitsOf-append [] Q = refl

@@ -1,10 +1,10 @@
--- What the places of demand 3 are (specs/Places), proved of `ending` and `beginning` for every encoding and every transformation, whatever laws these
--- have. Not here: that a mended text keeps what stands behind the one place and before the other (proofs/Damage; it knows the places by this alone).
+-- What the places of demand 3 are (specs/Places), proved of `ending` and `beginning` for every
+-- encoding and every transformation, whatever laws these have.
 --
--- In order: the first lead unit (`Sought`, `sought`); soft pieces skipped (`Skipped`, `skipped`, `all-skipped`); the ending's place (`ending-place`)
--- and when there is none (`ending-found`); the last hard piece (`Last`, `last-stands`, `none-stands`, `none-hard`); the beginning's place
+-- In order: the first lead unit (`Sought`, `sought`); soft pieces skipped (`Skipped`, `skipped`,
+-- `all-skipped`); the ending's place (`ending-place`) and when there is none (`ending-found`); the
+-- last hard piece (`Last`, `last-stands`, `none-stands`, `none-hard`); the beginning's place
 -- (`beginning-place`).
--- Assumes nothing.
 use mathlib.Core.Path.{_≡_, refl, sym, _∙_, ap}
 use mathlib.Core.Bool.{Bool, true, false, not, false≢true}
 use mathlib.Core.Logic.{_↔_}
@@ -84,7 +84,7 @@ module _ {A B : Type 0} (e : Encoding A) (m : Transformation B) where
         at = rw (h .behind) (k .at);
       }
 
-  -- there is nothing behind it exactly where all that is read is soft
+  -- there is nothing after it exactly where all that is read is soft
   pub ending-found : (z : List A) → (ending e m z ≡ []) ↔ All (IsSoft e m) (pieces (e .kind) (seek (e .lead) z))
   ending-found z = (nothing, (λ p. ap unitsOf (all-skipped p)))
     where

@@ -1,7 +1,7 @@
--- Ranges of numbers: from the orders to a test and back; what a list of ranges says of every number between two bounds; and where a number
--- lies whose value is known. In order: `within`; `look` forwards (`look-between`); `look` backwards (`look-inside`, and with any
--- statement of the value `look-cases`).
--- Not here: the definitions (specs/Ranges). Assumes nothing.
+-- Ranges of numbers: from the orders to a test and back; what a list of ranges says of every number
+-- between two bounds; and where a number lies whose value is known. In order: `within`; `look`
+-- forwards (`look-between`); `look` backwards (`look-inside`, and with any statement of the value
+-- `look-cases`).
 use mathlib.Core.Path.{_≡_, refl, sym, _∙_, ap}
 use mathlib.Core.Bool.{Bool, true, false, cond, _&&_, _||_}
 use mathlib.Core.Logic.{_⊎_, inl, inr, ⊎-elim}
@@ -48,7 +48,7 @@ module _ {V′ : Type 0} (none : V′) where
   between lo hi [] = none
   between lo hi (range a b v ∷ rs) = cond (leb a lo && leb hi b) v (between lo hi rs)
 
--- each range has all from lo to hi, or lies behind hi, or before lo
+-- each range has all from lo to hi, or lies after hi, or before lo
 abbrev pub uncut : {V′ : Type 0} → ℕ → ℕ → List (Range V′) → Bool
 uncut lo hi [] = true
 uncut lo hi (range a b v ∷ rs) = (leb a lo && leb hi b) || ((leb (suc hi) a || leb (suc b) lo) && uncut lo hi rs)
@@ -87,7 +87,8 @@ or-later true A B x = inr x
 or-later false A B x = x
 
 module _ {V′ : Type 0} (none : V′) (f : V′ → Bool) (c : ℕ) where
-  -- c lies in a range of the list whose value passes f, or in none and `none` passes: computes to the sum of those ranges
+  -- c lies in a range of the list whose value passes f, or in none and `none` passes: computes to
+  -- the sum of those ranges
   abbrev pub Inside : List (Range V′) → Type 0
   Inside [] = T (f none)
   Inside (range lo hi v ∷ rs) = orElse (f v) ((lo ≤ c) × (c ≤ hi)) (Inside rs)
@@ -103,7 +104,8 @@ module _ {V′ : Type 0} (none : V′) (f : V′ → Bool) (c : ℕ) where
 -- ---- backwards, with what holds of the value
 
 module _ {V′ : Type 0} (none : V′) (P : V′ → Type 0) (c : ℕ) where
-  -- c lies in a range of the list and P holds of the range's value, or P holds of `none`: computes to the sum of all ranges
+  -- c lies in a range of the list and P holds of the range's value, or P holds of `none`: computes
+  -- to the sum of all ranges
   abbrev pub Cases : List (Range V′) → Type 0
   Cases [] = P none
   Cases (range lo hi v ∷ rs) = ((lo ≤ c) × ((c ≤ hi) × P v)) ⊎ Cases rs

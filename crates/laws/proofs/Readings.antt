@@ -1,10 +1,11 @@
--- THE PIECES ARE THE READING: for every coherent `kind` the machine of specs/Pieces gives the reading of specs/Readings, which is that of the Unicode
--- Standard 15.0, section 3.9. And THE READING IS UNIQUE: pieces found in any other way, if they are such a reading, are the same pieces.
--- Not here: that some encoding's `kind` is coherent, or is what the Standard's tables list.
+-- THE PIECES ARE THE READING: for every coherent `kind` the machine of specs/Pieces gives the
+-- reading of specs/Readings, which is that of the Unicode Standard 15.0, section 3.9. And THE
+-- READING IS UNIQUE: pieces found in any other way, if they are such a reading, are the same
+-- pieces.
 --
--- In order: kinds exclude each other; kinds with more units; where a maximal subpart is; the pieces are the reading (`reading`); the first piece of a
--- reading, and that two are equal; the reading is unique (`unique`, `reading-pieces`).
--- Assumes nothing.
+-- In order: kinds exclude each other; kinds with more units; where a maximal subpart is; the pieces
+-- are the reading (`reading`); the first piece of a reading, and that two are equal; the reading is
+-- unique (`unique`, `reading-pieces`).
 use mathlib.Core.Path.{_≡_, refl, sym, _∙_, ap}
 use mathlib.Core.Logic.{_⊎_, inl, inr, ⊎-elim}
 use mathlib.Core.List.{List, [], _∷_, _++_, append-assoc, append-nil, nil≢cons}
@@ -13,7 +14,7 @@ use native.Mathlib.Omega.{arith}
 use lib.ListN.{length, length-append}
 use Rattle.laws.specs.Machines.{from}
 use Rattle.laws.specs.Pieces.{Kind, full, part, bad, Piece, good, ill, cutter, pieces}
-use Rattle.laws.specs.Readings.{Coherent, Maximal, Reading, nothing, formed, broken}
+use Rattle.laws.specs.Readings.{Completable, Coherent, Subpart, Maximal, Reading, nothing, formed, broken}
 use Rattle.laws.proofs.Lists.{nil-left, cut-front, cut-back, Cuts, short, long, cuts}
 use Rattle.laws.proofs.Pieces.{open-full, open-part, open-bad, goes-full, goes-part, goes-bad}
 
@@ -42,7 +43,8 @@ module _ {A : Type 0} (kind : List A → Kind) (co : Coherent kind) where
   beyond-full [] a z h = absurd (full-bad h (co .empty))
   beyond-full (b ∷ p) a z h = beyond-bad b p a z (co .after-full b p a h)
 
-  -- ---- b ∷ p is a maximal subpart at the front of b ∷ p ++ t, if it begins as D93b says, is not well-formed, and does not go on
+  -- ---- b ∷ p is a maximal subpart at the front of b ∷ p ++ t, if it begins as D93b says,
+  -- is not well-formed, and does not go on
 
   module _ (b : A) (p t : List A) (begins : (kind (b ∷ p) ≡ part) ⊎ (length (b ∷ p) ≡ 1)) (notFull : kind (b ∷ p) ≡ full → ⊥)
       (beyond : (a : A) (z y : List A) → t ≡ a ∷ z ++ y → kind (b ∷ p ++ a ∷ z) ≡ bad) where
@@ -58,14 +60,21 @@ module _ {A : Type 0} (kind : List A → Kind) (co : Coherent kind) where
     no-full x y q (short z h) = not-inside x z h q
     no-full x y q (long a z h k) = full-bad q (ap kind h ∙ beyond a z y k)
 
-    no-longer : (x y : List A) → kind x ≡ part → Cuts (b ∷ p) t x y → length x ≤ length (b ∷ p)
+    -- what is bad is completed by nothing
+    not-begun : (a : A) (z : List A) → kind (b ∷ p ++ a ∷ z) ≡ bad → Completable kind (b ∷ p ++ a ∷ z) → ⊥
+    not-begun a z q h = full-bad (h .completed) (stays-bad (h .rest) b (p ++ a ∷ z) q)
+
+    no-longer : (x y : List A) → Subpart kind x → Cuts (b ∷ p) t x y → length x ≤ length (b ∷ p)
     no-longer x y q (short z h) = omega (arith, ap length h, length-append x z)
-    no-longer x y q (long a z h k) = absurd (part-bad q (ap kind h ∙ beyond a z y k))
+    no-longer x y q (long a z h k) =
+        ⊎-elim (λ (f : Completable kind x). absurd (not-begun a z (beyond a z y k) (rw h at f)))
+        (λ (f : length x ≡ 1). omega (arith, ap length h, length-append (b ∷ p) (a ∷ z))) q
 
     maximal : Maximal kind (b ∷ p) t
     maximal = record {
+      some = omega arith;
       unconvertible = λ x y e q. no-full x y q (cuts (b ∷ p) t x y e);
-      begins = begins;
+      subpart = ⊎-elim (λ (h : kind (b ∷ p) ≡ part). inl (co .completes b p h)) (λ (h : length (b ∷ p) ≡ 1). inr h) begins;
       longest = λ x y e q. no-longer x y q (cuts (b ∷ p) t x y e);
     }
 
@@ -107,7 +116,8 @@ module _ {A : Type 0} (kind : List A → Kind) (co : Coherent kind) where
   pub reading : (t : List A) → Reading kind t (pieces kind t)
   reading t = both t .0
 
--- ---- the first piece of a reading, by equations: the text and its pieces may be given in another form
+-- ---- the first piece of a reading, by equations:
+-- the text and its pieces may be given in another form
 
 data Head {A : Type 0} (kind : List A → Kind) (t : List A) (P : List (Piece A)) : Type 0 where
   head-none : t ≡ [] → P ≡ [] → Head kind t P
@@ -131,14 +141,9 @@ module _ {A : Type 0} (kind : List A → Kind) (co : Coherent kind) where
       by (short (a ∷ z) h) = absurd (full-bad q (ap kind h ∙ beyond-full kind co v a z k))
       by (long a z h i) = absurd (full-bad k (ap kind h ∙ beyond-full kind co u a z q))
 
-  -- a maximal subpart has a unit
-  some-unit : (u t : List A) → Maximal kind u t → 1 ≤ length u
-  some-unit [] t m = absurd (⊎-elim (λ h. part-bad h (co .empty)) (λ h. omega arith) (m .begins))
-  some-unit (b ∷ u) t m = omega arith
-
   -- maximal subparts: neither is longer
   as-long : (u t v s : List A) → u ++ t ≡ v ++ s → Maximal kind u t → Maximal kind v s → length u ≤ length v
-  as-long u t v s e m n = ⊎-elim (λ h. n .longest u t (sym e) h) (λ h. omega (arith, some-unit v s n)) (m .begins)
+  as-long u t v s e m n = n .longest u t (sym e) (m .subpart)
 
   same-length : (u t v s : List A) → u ++ t ≡ v ++ s → Maximal kind u t → Maximal kind v s → length u ≡ length v
   same-length u t v s e m n = omega (arith, as-long u t v s e m n, as-long v s u t (sym e) n m)
@@ -147,7 +152,7 @@ module _ {A : Type 0} (kind : List A → Kind) (co : Coherent kind) where
   not-nil-full u t e q = full-bad q (ap kind (nil-left u t e) ∙ co .empty)
 
   not-nil-maximal : (u t : List A) → u ++ t ≡ [] → Maximal kind u t → ⊥
-  not-nil-maximal u t e m = omega (arith, some-unit u t m, ap length (nil-left u t e))
+  not-nil-maximal u t e m = omega (arith, m .some, ap length (nil-left u t e))
 
   -- ---- THE READING IS UNIQUE
 

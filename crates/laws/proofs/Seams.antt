@@ -1,9 +1,8 @@
--- Pieces cut in two. THE SEAM LAW: the pieces of a text may be cut between any two, and each half is what its own units read as. THE KEEPING LAW: a
--- well-formed piece, with all before it, stays whatever is put behind the text. For every `kind`, coherent or not.
--- Not here: texts cut at a unit (`cut` of proofs/Machines with `starts-fence` of proofs/Pieces).
+-- Pieces cut in two. THE SEAM LAW: the pieces of a text may be cut between any two, and each half
+-- is what its own units read as. THE KEEPING LAW: a well-formed piece, with all before it, stays
+-- whatever is put after the text. For every `kind`, coherent or not.
 --
 -- In order: the two halves of a text (`Halves`); the seam law (`seam`); the keeping law (`kept`).
--- Assumes nothing.
 use mathlib.Core.Path.{_≡_, refl, sym, _∙_, ap}
 use mathlib.Core.List.{List, [], _∷_, _++_, append-assoc, nil≢cons, cons≢nil}
 use Prim.Native.Nat.{ℕ}
@@ -14,7 +13,8 @@ use Rattle.laws.proofs.Lists.{nil-left, nil-right}
 use Rattle.laws.proofs.Machines.{from-append, from-outs}
 use Rattle.laws.proofs.Pieces.{unitsOf-pieces}
 
--- a text t whose pieces are P and then Q: it is the units of P and then those of Q, and each of the two reads as its own pieces
+-- a text t whose pieces are P and then Q: it is the units of P and then those of Q, and each of the
+-- two reads as its own pieces
 pub record Halves {A : Type 0} (kind : List A → Kind) (t : List A) (P Q : List (Piece A)) : Type 0 where
   pub text : t ≡ unitsOf P ++ unitsOf Q
   pub before : pieces kind (unitsOf P) ≡ P
@@ -22,7 +22,8 @@ pub record Halves {A : Type 0} (kind : List A → Kind) (t : List A) (P Q : List
 
 -- ---- the seam's place, found unit by unit
 
--- E is made and n is open, and t gives what is missing to P and then Q: front is as much of t as belongs to P
+-- E is made and n is open, and t gives what is missing to P and then Q: front is as much of t as
+-- belongs to P
 record Seam {A : Type 0} (kind : List A → Kind) (E : List (Piece A)) (n t : List A) (P Q : List (Piece A)) : Type 0 where
   front : List A
   back : List A
@@ -31,7 +32,8 @@ record Seam {A : Type 0} (kind : List A → Kind) (E : List (Piece A)) (n t : Li
   behind : pieces kind back ≡ Q
 
 module _ {A : Type 0} (kind : List A → Kind) (t : List A) (Q : List (Piece A)) where
-  -- what is shown of every text, by recursion on it: P is not empty, since n may be open where P ends
+  -- what is shown of every text, by recursion on it: P is not empty, since n may be open where P
+  -- ends
   abbrev Found : Type 0
   Found = (n : List A) (u : Piece A) (P : List (Piece A)) → from (cutter kind) n t ≡ u ∷ P ++ Q → Seam kind [] n t (u ∷ P) Q
 
@@ -96,7 +98,8 @@ module _ {A : Type 0} (kind : List A → Kind) where
 
   -- ---- THE KEEPING LAW
 
-  -- a well-formed piece was written on the way, as one of O: what is written out at the end is ill-formed
+  -- a well-formed piece was written on the way, as one of O: what is written out at the end is
+  -- ill-formed
   on-the-way : (P O : List (Piece A)) (u : List A) (Q : List (Piece A)) (s : List A) → P ++ good u ∷ Q ≡ O ++ cutFlush s
       → (R : List (Piece A)) × (O ≡ P ++ good u ∷ R)
   on-the-way [] [] u Q [] e = absurd (cons≢nil e)

@@ -1,6 +1,8 @@
--- Laws of strings. In order: `same` says that two strings are equal, and `begins` that the one goes on behind the other; both by their lengths, and
--- `begins` at an index; a table's rule by a computed test (`every-all`, `packed-distinct`); and three strings that are put together are known again
--- (`split-once`): what stands before the letters of a set, these letters, and what stands behind them. Not here: any one table. Assumes nothing.
+-- Laws of strings. In order: `same` says that two strings are equal, and `begins` that the one goes
+-- on after the other; both by their lengths, and `begins` at an index; a table's rule by a computed
+-- test (`every-all`, `packed-distinct`); and three strings that are put together are known again
+-- (`split-once`): what stands before the letters of a set, these letters, and what stands after
+-- them.
 use mathlib.Core.Path.{_≡_, refl, sym, _∙_, ap}
 use mathlib.Core.Bool.{Bool, true, false, _&&_, true≢false, false≢true}
 use mathlib.Core.List.{List, [], _∷_, _++_, map}
@@ -12,7 +14,7 @@ use lib.ListN.{length, getD, drop, length-append, length-map, List·getD-map}
 use lib.Seq.{drop-cons}
 use borrow.Author.Tests.{eqb-true, eq-eqb, ne-eqb}
 use Rattle.laws.specs.Lists.{All, none, also}
-use Rattle.laws.specs.Strings.{same, begins, picked, Distinct, Splits}
+use Rattle.laws.specs.Strings.{same, begins, picked, Distinct, Separable}
 use Rattle.laws.proofs.Bools.{test, and-left, and-right, and-T-left, and-T-right}
 use Rattle.laws.proofs.Lists.{cut-back, all-at}
 use Rattle.laws.proofs.Tables.{every, distinct, distinct-at}
@@ -40,7 +42,7 @@ not-same x y h = test (same x y) (λ e. absurd (h (same-true x y e))) (λ e. e)
 
 -- ---- begins
 
--- what stands behind x
+-- what stands after x
 pub begins-behind : (x y : List ℕ) → begins x y ≡ true → y ≡ x ++ drop (length x) y
 begins-behind [] y e = refl
 begins-behind (a ∷ x) [] e = absurd (false≢true e)
@@ -80,7 +82,8 @@ same-begins [] (b ∷ y) h = absurd (omega arith)
 same-begins (a ∷ x) [] h = absurd (omega arith)
 same-begins (a ∷ x) (b ∷ y) h = ap (λ (t : Bool). eqb a b && t) (same-begins x y (omega arith))
 
--- ---- begins, at an index of the text l: of a string whose first letter is a, and at the same index of a string
+-- ---- begins, at an index of the text l:
+-- of a string whose first letter is a, and at the same index of a string
 
 at-index : (l : List ℕ) (at : ℕ) → at < length l → drop at l ≡ getD l at 0 ∷ drop (at + 1) l
 at-index l at h = rw add-one (drop-cons l at 0 h)
@@ -144,7 +147,7 @@ module _ (inSet : ℕ → Bool) (b : Bool) where
   ends-some n (a ∷ x) u (also q p) some c z e r = n (sym q ∙ (let same : a ≡ c = cc in cc))
 
 -- THREE STRINGS ARE PUT TOGETHER IN ONE WAY
-module _ {inSet : ℕ → Bool} {A B C : List (List ℕ)} (s : Splits inSet A B C) (i p f j q g : ℕ) (hi : i < length A) (hj : j < length A)
+module _ {inSet : ℕ → Bool} {A B C : List (List ℕ)} (s : Separable inSet A B C) (i p f j q g : ℕ) (hi : i < length A) (hj : j < length A)
     (hp : p < length B) (hq : q < length B) (hf : f < length C) (hg : g < length C) (e : picked A B C i p f ≡ picked A B C j q g) where
   second-ends : (k : ℕ) → k < length B → (u : List ℕ) → Ends inSet false (getD B k [] ++ u)
   second-ends k h u = ends-some inSet false true≢false (getD B k []) u (all-at [] (s .second-full) k h) (all-at [] (s .second-some) k h)

@@ -1,5 +1,6 @@
--- A table's rule by one computed test: a test that antt computes over the whole table, and one law that turns it into the rule at each entry.
--- In order: every entry passes (`every-at`); no two entries are equal (`distinct-at`). Not here: any table. Assumes nothing.
+-- A table's rule by one computed test: a test that antt computes over the whole table, and one law
+-- that turns it into the rule at each entry. In order: every entry passes (`every-at`); no two
+-- entries are equal (`distinct-at`).
 use mathlib.Core.Path.{_≡_, refl, sym, ap, _∙_}
 use mathlib.Core.Bool.{Bool, true, false, not, _&&_}
 use mathlib.Core.List.{List, [], _∷_}

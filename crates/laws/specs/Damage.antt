@@ -1,11 +1,13 @@
--- How far damage in the middle of a text reaches: what of a mended text depends on its beginning alone, and what on its ending alone. Stated once, over
--- any encoding and any transformation of code points. A text is mended by reading it, each ill-formed part as one U+FFFD, and transforming what was read.
--- Definitions and statements; nothing is proved here (proofs/Damage), and there is no one encoding and no one transformation here.
+-- How far damage in the middle of a text reaches: what of a mended text depends on its beginning
+-- alone, and what on its ending alone. Stated once, over any encoding and any transformation of
+-- code points. A text is mended by reading it, each ill-formed part as one U+FFFD, and transforming
+-- what was read. Definitions and statements; nothing is proved here (proofs/Damage), and there is
+-- no one encoding and no one transformation here.
 --
--- In order: `Encoding`, `Transformation`; mending (`codeOf`, `codes`, `mend`); ends and starts of texts (`EndsWith`, `StartsWith`); the places (`seek`,
--- `skip`, `stands`, `upto`, `softUnits`) and the texts that they bound (`ending`, `beginning`); the statement (`Kept`); what it asks of an encoding
--- (`Leads`) and of a transformation (`Cuttable`).
--- Assumes nothing.
+-- In order: `Encoding`, `Transformation`; mending (`codeOf`, `codes`, `mend`); ends and starts of
+-- texts (`EndsWith`, `StartsWith`); the places (`seek`, `skip`, `stands`, `upto`, `softUnits`) and
+-- the texts that they bound (`ending`, `beginning`); the statement (`Kept`); what it asks of an
+-- encoding (`Leads`) and of a transformation (`Cuttable`).
 use mathlib.Core.Path.{_≡_}
 use mathlib.Core.Bool.{Bool, true, false, cond, not, _||_}
 use mathlib.Core.List.{List, [], _∷_, _++_}
@@ -13,13 +15,15 @@ use Prim.Native.Nat.{ℕ}
 use Rattle.laws.specs.Machines.{Splits}
 use Rattle.laws.specs.Pieces.{Kind, Piece, good, ill, unitsOf, pieces, Starts}
 
--- an encoding: the kind of each sequence of units, the code point of a well-formed one, and which units only ever begin a sequence
+-- an encoding: the kind of each sequence of units, the code point of a well-formed one, and which
+-- units only ever begin a sequence
 pub record Encoding (A : Type 0) : Type 0 where
   pub kind : List A → Kind
   pub code : List A → ℕ
   pub lead : A → Bool
 
--- a transformation of code points into letters of B, and its soft code points: those that may take part in what is made of what stands before them
+-- a transformation of code points into letters of B, and its soft code points: those that may take
+-- part in what is made of what stands before them
 pub record Transformation (B : Type 0) : Type 0 where
   pub make : List ℕ → List B
   pub soft : ℕ → Bool
@@ -70,7 +74,8 @@ upto soft (w ∷ P) = cond (stands soft P) (w ∷ upto soft P) []
 abbrev pub softUnits : {A B : Type 0} → Encoding A → Transformation B → List A → Bool
 softUnits e m u = m .soft (e .code u)
 
--- z from the first character that is ill-formed or not soft, where z is read from its first unit that begins a sequence
+-- z from the first character that is ill-formed or not soft, where z is read from its first unit
+-- that begins a sequence
 abbrev pub ending : {A B : Type 0} → Encoding A → Transformation B → List A → List A
 ending e m z = unitsOf (skip (softUnits e m) (pieces (e .kind) (seek (e .lead) z)))
 
@@ -80,8 +85,9 @@ beginning e m b = unitsOf (upto (softUnits e m) (pieces (e .kind) b))
 
 -- ---- the statement, and what it asks for
 
--- a text that begins with b and ends with z, whatever c stands between them: mended, it ends with what mending z from its place gives, and starts with
--- what mending b up to its place gives. Where there is no such place, that is nothing
+-- a text that begins with b and ends with z, whatever c stands between them: mended, it ends with
+-- what mending z from its place gives, and starts with what mending b up to its place gives. Where
+-- there is no such place, that is nothing
 pub record Kept {A B : Type 0} (e : Encoding A) (m : Transformation B) (b c z : List A) : Type 0 where
   pub ends : EndsWith (mend e m (b ++ c ++ z)) (mend e m (ending e m z))
   pub starts : StartsWith (mend e m (b ++ c ++ z)) (mend e m (beginning e m b))
@@ -90,7 +96,8 @@ pub record Kept {A B : Type 0} (e : Encoding A) (m : Transformation B) (b c z : 
 pub record Leads {A : Type 0} (e : Encoding A) : Type 0 where
   pub starts : (a : A) → e .lead a ≡ true → Starts (e .kind) a
 
--- of a transformation: of nothing it makes nothing, it may be cut before each code point that is not soft, and U+FFFD stands alone: it is a wall
+-- of a transformation: of nothing it makes nothing, it may be cut before each code point that is
+-- not soft, and U+FFFD stands alone: it is a wall
 pub record Cuttable {B : Type 0} (m : Transformation B) : Type 0 where
   pub empty : m .make [] ≡ []
   pub cuts : (c : ℕ) → m .soft c ≡ false → (y : List ℕ) → Splits (m .make) (c ∷ y)

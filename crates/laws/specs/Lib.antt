@@ -1,6 +1,5 @@
--- Crate laws, specs/: the definitions that know nothing of Hangul: lists, ranges, strings, machines, pieces, readings, damage and its places, writing,
--- lowest first.
--- Not here: any law or proof (proofs/).
+-- The definitions of crate laws, lowest first: lists, ranges, strings, machines, pieces, readings,
+-- damage and its places, writing. They know nothing of Hangul.
 pub mod Lists
 pub mod Ranges
 pub mod Strings

@@ -1,5 +1,5 @@
--- Lists: what each element becomes, one after the other; what holds of every element; how many numbers of a range pass a test.
--- Not here: `map`, `_++_` (mathlib.Core.List); `length`, `take`, `drop` (lib.ListN); the laws (proofs/Lists). Assumes nothing.
+-- Lists: what each element becomes, one after the other; what holds of every element; how many
+-- numbers of a range pass a test.
 use mathlib.Core.Bool.{Bool, cond}
 use mathlib.Core.List.{List, [], _∷_, _++_}
 use Prim.Native.Nat.{ℕ, zero, suc}

@@ -1,10 +1,12 @@
--- Machines: a machine reads a list of letters from the left, one by one, carries a state, and writes a list; at the end it writes what is still open.
--- And where what a machine reads may be cut in two. Any types of states and letters; the laws are in proofs/Machines. This is no loop over a buffer.
+-- Machines: a machine reads a list of letters from the left, one by one, carries a state, and
+-- writes a list; at the end it writes what is still open. And where what a machine reads may be cut
+-- in two. Any types of states and letters; the laws are in proofs/Machines. This is no loop over a
+-- buffer.
 --
--- In order: `Machine`; what it writes and where it ends on the way (`outs`, `ends`); all that it writes (`from`, `whole`); a place to cut (`Splits`);
--- a letter before which every text may be cut (`Fence`); a fence that leaves nothing open (`Wall`); one machine that reads what another writes
+-- In order: `Machine`; what it writes and where it ends on the way (`outs`, `ends`); all that it
+-- writes (`from`, `whole`); a place to cut (`Splits`); a letter before which every text may be cut
+-- (`Fence`); a fence that leaves nothing open (`Wall`); one machine that reads what another writes
 -- (`behind`), or the parts of each letter (`fed`).
--- Assumes nothing.
 use mathlib.Core.Path.{_≡_}
 use mathlib.Core.List.{List, [], _∷_, _++_}
 
@@ -34,7 +36,8 @@ from m s (a ∷ x) = m .emit s a ++ from m (m .step s a) x
 abbrev pub whole : {S A B : Type 0} → Machine S A B → List A → List B
 whole m x = from m (m .start) x
 
--- f may be cut before z: what stands before z changes nothing in what f makes of z, and z nothing in what f makes of that
+-- f may be cut before z: what stands before z changes nothing in what f makes of z, and z nothing
+-- in what f makes of that
 abbrev pub Splits : {A B : Type 0} → (List A → List B) → List A → Type 0
 Splits {A} f z = (x : List A) → f (x ++ z) ≡ f x ++ f z
 

@@ -1,11 +1,13 @@
--- A text of code units taken apart into pieces: well-formed sequences, and ill-formed parts between them. One machine for every encoding. The encoding
--- is given by `kind`, which says of a sequence of units whether it is well-formed, a proper beginning of a well-formed one, or neither.
--- That the pieces are those of the Unicode Standard is no part of this: specs/Readings states it and proofs/Readings shows it. No code points here.
+-- A text of code units taken apart into pieces: well-formed sequences, and ill-formed parts between
+-- them. One machine for every encoding. The encoding is given by `kind`, which says of a sequence
+-- of units whether it is well-formed, a proper beginning of a well-formed one, or neither. That the
+-- pieces are those of the Unicode Standard is no part of this: specs/Readings states it and
+-- proofs/Readings shows it. No code points here.
 --
--- In order: `Kind`, `Piece`; the units of pieces (`units`, `unitsOf`); one unit more (`made`, `left`, and with something open `madeAt`, `leftAt`); the
--- machine (`cutEmit`, `cutStep`, `cutFlush`, `cutter`); the pieces of a text (`pieces`); their ill-formed ones counted (`illCount`); units that begin a
--- piece wherever they stand (`Starts`).
--- Assumes nothing.
+-- In order: `Kind`, `Piece`; the units of pieces (`units`, `unitsOf`); one unit more (`made`,
+-- `left`, and with something open `madeAt`, `leftAt`); the machine (`cutEmit`, `cutStep`,
+-- `cutFlush`, `cutter`); the pieces of a text (`pieces`); their ill-formed ones counted
+-- (`illCount`); units that begin a piece wherever they stand (`Starts`).
 use mathlib.Core.Path.{_≡_}
 use mathlib.Core.List.{List, [], _∷_, _++_}
 use Prim.Native.Nat.{ℕ, suc}
@@ -41,7 +43,8 @@ left full u = []
 left part u = u
 left bad u = []
 
--- the same where p is open and a comes: k is the kind of p with a, and k₁ that of a alone. Where a does not go on, p is ill-formed and a begins anew
+-- the same where p is open and a comes: k is the kind of p with a, and k₁ that of a alone. Where a
+-- does not go on, p is ill-formed and a begins anew
 abbrev pub madeAt : {A : Type 0} → Kind → Kind → List A → A → List (Piece A)
 madeAt full k₁ p a = good (p ++ (a ∷ [])) ∷ []
 madeAt part k₁ p a = []

@@ -1,9 +1,9 @@
--- What the places of specs/Damage are, in words that a reader can hold against the customer's: `ending` and `beginning` are computed there; here stands
--- what has to be true of them. Statements; nothing is proved here (proofs/Places). No one encoding and no one transformation here.
+-- What the places of specs/Damage are, in words that a reader can hold against the customer's:
+-- `ending` and `beginning` are computed there; here stands what has to be true of them. Statements;
+-- nothing is proved here (proofs/Places). No one encoding and no one transformation here.
 --
--- In order: the kinds of pieces (`IsSoft`, `IsHard`, `Stops`); the ending's place (`Led`, `AtPlace`, `EndingPlace`); the beginning's (`BeginningPlace`,
--- `BeginningFound`).
--- Assumes nothing.
+-- In order: the kinds of pieces (`IsSoft`, `IsHard`, `Stops`); the ending's place (`Led`,
+-- `AtPlace`, `EndingPlace`); the beginning's (`BeginningPlace`, `BeginningFound`).
 use mathlib.Core.Path.{_≡_}
 use mathlib.Core.Bool.{Bool, true, false}
 use mathlib.Core.List.{List, [], _∷_, _++_}
@@ -41,8 +41,9 @@ module _ {A B : Type 0} (e : Encoding A) (m : Transformation B) where
   AtPlace [] = Unit {0}
   AtPlace (w ∷ P) = Stops e m w
 
-  -- z is units that begin no sequence, then soft characters, then the ending, which begins with a piece that stops: z is read from the first unit that
-  -- begins a sequence, and the place is the first piece there that is not soft
+  -- z is units that begin no sequence, then soft characters, then the ending, which begins with a
+  -- piece that stops: z is read from the first unit that begins a sequence, and the place is the
+  -- first piece there that is not soft
   pub record EndingPlace (z : List A) : Type 0 where
     pub loose : List A
     pub softs : List (Piece A)
@@ -56,7 +57,8 @@ module _ {A B : Type 0} (e : Encoding A) (m : Transformation B) where
 
   -- ---- the beginning's place
 
-  -- b is the beginning, then a well-formed character that is not soft, then pieces of which none is one
+  -- b is the beginning, then a well-formed character that is not soft, then pieces of which none is
+  -- one
   pub record BeginningPlace (b : List A) : Type 0 where
     pub last : List A
     pub behind : List (Piece A)

@@ -1,5 +1,5 @@
--- Ranges of numbers, both ends included, and a decision over a list of them: the value of the first range that has the number.
--- Not here: the laws, from a test to the orders and back (proofs/Ranges). Assumes nothing.
+-- Ranges of numbers, both ends included, and a decision over a list of them: the value of the first
+-- range that has the number.
 use mathlib.Core.Bool.{Bool, cond, _&&_}
 use mathlib.Core.List.{List, [], _∷_}
 use Prim.Native.Nat.{ℕ}

@@ -1,6 +1,6 @@
--- Strings of bytes: the bytes of a text in quotes; whether two strings are the same, and whether one begins with another; tables of strings of which
--- one, another and a third are put together, with what makes the three known again (`Splits`).
--- Not here: any one table, and the laws (proofs/Strings). Assumes nothing.
+-- Strings of bytes: the bytes of a text in quotes; whether two strings are the same, and whether
+-- one begins with another; tables of strings of which one, another and a third are put together,
+-- with what makes the three known again (`Separable`).
 use mathlib.Core.Path.{_≡_}
 use mathlib.Core.Bool.{Bool, true, false, _&&_}
 use mathlib.Core.List.{List, [], _∷_, _++_}
@@ -28,7 +28,7 @@ begins [] y = true
 begins (a ∷ x) [] = false
 begins (a ∷ x) (b ∷ y) = eqb a b && begins x y
 
--- a string of each of three tables, one behind the other
+-- a string of each of three tables, one after the other
 abbrev pub picked : List (List ℕ) → List (List ℕ) → List (List ℕ) → ℕ → ℕ → ℕ → List ℕ
 picked A B C i p f = getD A i [] ++ (getD B p [] ++ getD C f [])
 
@@ -36,9 +36,9 @@ picked A B C i p f = getD A i [] ++ (getD B p [] ++ getD C f [])
 abbrev pub Distinct : List (List ℕ) → Type 0
 Distinct A = (i j : ℕ) → i < length A → j < length A → getD A i [] ≡ getD A j [] → i ≡ j
 
--- three tables of distinct strings and a set of letters: the first and the third table's strings hold none of these, the second's hold nothing else and are
--- not empty
-pub record Splits (inSet : ℕ → Bool) (A B C : List (List ℕ)) : Type 0 where
+-- three tables of distinct strings and a set of letters: the first and the third table's strings
+-- hold none of these, the second's hold nothing else and are not empty
+pub record Separable (inSet : ℕ → Bool) (A B C : List (List ℕ)) : Type 0 where
   pub first-free : All (λ x. All (λ c. inSet c ≡ false) x) A
   pub second-full : All (λ x. All (λ c. inSet c ≡ true) x) B
   pub second-some : All (λ x. x ≡ [] → ⊥) B

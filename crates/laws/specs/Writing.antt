@@ -1,8 +1,10 @@
--- What a function that writes a list into a lent buffer asks and leaves. A buffer is a list; what is written at an index takes the place of
--- as many elements. Not here: the laws, and what a loop that writes piece by piece keeps (proofs/Filling). Assumes nothing.
+-- What a function that writes a list into a lent buffer asks and leaves. A buffer is a list; what
+-- is written at an index takes the place of as many elements.
 use mathlib.Core.Path.{_≡_}
-use mathlib.Core.List.{List, _++_}
+use mathlib.Core.Bool.{cond}
+use mathlib.Core.List.{List, [], _++_}
 use Prim.Native.Nat.{ℕ, _+_, _≤_}
+use lib.Dec.{leb}
 use lib.ListN.{length, drop}
 use lib.Seq.{sets}
 
@@ -14,7 +16,12 @@ front whole out = whole ++ drop (length whole) out
 pub record Room {A : Type 0} (out : List A) (at : ℕ) (xs : List A) : Type 0 where
   pub fits : at + length xs ≤ length out
 
--- xs stands in the buffer from `at` on, the rest is as it was, and r is the index behind xs
+-- what a function writes that checks the room itself: xs, if out has room for all of it from `at`
+-- on, else nothing
+unfoldable pub fitted : {A : Type 0} → List A → List A → ℕ → List A
+fitted xs out at = cond (leb (at + length xs) (length out)) xs []
+
+-- xs stands in the buffer from `at` on, the rest is as it was, and r is the index after xs
 pub record Wrote {A : Type 0} (out : List A) (at : ℕ) (xs : List A) (r : ℕ) (out′ : List A) : Type 0 where
   pub behind : r ≡ at + length xs
   pub holds : out′ ≡ sets out at xs

@@ -1,2 +1,2 @@
-// The general laws: lists, ranges, tables, machines, pieces, damage, writing (specs/ and proofs/).
-// No code: the crates above cite its definitions and laws, and it knows nothing of Hangul.
+// The general laws: lists, ranges, strings, tables, machines, pieces, damage, writing. It knows
+// nothing of Hangul and has no code: definitions stand in specs/, laws in proofs/.

@@ -1,5 +1,5 @@
--- The one step is the Standard's canonical decomposition mapping of Hangul syllables, and full parts are its full canonical decomposition: for every
--- number, with no bound. Not here: normal forms (crate joining). Assumes nothing.
+-- The one step is the Standard's canonical decomposition mapping of Hangul syllables, and full
+-- parts are its full canonical decomposition: for every number, with no bound.
 use mathlib.Core.Path.{_≡_, refl, sym, _∙_, ap}
 use mathlib.Core.Bool.{Bool, true, false, _&&_}
 use mathlib.Core.List.{List, [], _∷_}
@@ -12,7 +12,7 @@ use Rattle.laws.proofs.Lists.{each-same}
 use Rattle.letters.specs.Syllables.{isSyllable, indexOf, initialOf, peakOf, finalOf, oneStep, partsOf, fullParts}
 use Rattle.letters.specs.Chapter3.{SBase, SIndex, SCount, precomposed, mapping, decomposition}
 use Rattle.letters.proofs.Steps.{syllable-yes, syllable-below, syllable-above, syllable-least, by-step, step-lv, step-lvt-multiple, step-other}
-use Rattle.letters.proofs.Parts.{parts-lv, parts-lvt, parts-other}
+use Rattle.letters.proofs.FullParts.{parts-lv, parts-lvt, parts-other}
 
 -- a precomposed syllable is one of AC00–D7A3
 pub precomposed-is : (s : ℕ) → precomposed s ≡ isSyllable s

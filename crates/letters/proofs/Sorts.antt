@@ -1,5 +1,4 @@
 -- Laws of the sorter: the sort from the range that a number lies in, and the range from the sort.
--- Not here: how many code points have a sort (crate letters_counts). Assumes nothing.
 use mathlib.Core.Path.{_≡_, refl, sym, _∙_, ap}
 use mathlib.Core.Bool.{Bool, true, false, cond, _&&_, _||_}
 use mathlib.Core.Logic.{_⊎_, ⊎-elim}

@@ -1,5 +1,5 @@
--- Laws of the syllables and of the one step: index, I, P and F determine and are determined by the syllable; the one step in its three cases.
--- Not here: the parts taken apart again (proofs/Parts), the Standard's terms (proofs/Chapter3). Assumes nothing.
+-- Laws of the syllables and of the one step: index, I, P and F determine and are determined by the
+-- syllable; the one step in its three cases.
 use mathlib.Core.Path.{_≡_, refl, sym, _∙_, ap}
 use mathlib.Core.Bool.{Bool, true, false}
 use mathlib.Core.Logic.{_⊎_, inl, inr, ⊎-elim}

@@ -1,5 +1,6 @@
--- Hangul syllable decomposition in the Unicode Standard's own terms: version 15.0, chapter 3, section 3.12, 'Conjoining Jamo Behavior'.
--- Not here: document 01's terms (specs/Syllables); proofs/Chapter3 shows the two to be the same. Assumes nothing.
+-- Hangul syllable decomposition in the Unicode Standard's own terms: version 15.0, chapter 3,
+-- section 3.12, 'Conjoining Jamo Behavior'. proofs/Chapter3 shows that document 01's terms
+-- (specs/Syllables) say the same.
 use mathlib.Core.Bool.{Bool, cond, _&&_}
 use mathlib.Core.List.{List, [], _∷_}
 use Prim.Native.Nat.{ℕ, _+_, _-_, _*_, _/_, _%_}
@@ -40,8 +41,9 @@ SIndex s = s - SBase
 abbrev pub precomposed : ℕ → Bool
 precomposed s = leb SBase s && ltb (SIndex s) SCount
 
--- 'Arithmetic Decomposition Mapping': the canonical decomposition mapping of a syllable, an LV into <L, V>, an LVT into <LV, T>.
--- A code point that is no precomposed syllable is itself here, as Decomposition_Mapping's default is
+-- 'Arithmetic Decomposition Mapping': the canonical decomposition mapping of a syllable, an LV into
+-- <L, V>, an LVT into <LV, T>. A code point that is no precomposed syllable is itself here, as
+-- Decomposition_Mapping's default is
 abbrev pub mapLV : ℕ → List ℕ
 mapLV s = (LBase + SIndex s / NCount) ∷ (VBase + SIndex s % NCount / TCount) ∷ []
 
@@ -51,7 +53,8 @@ mapLVT s = (SBase + SIndex s / TCount * TCount) ∷ (TBase + SIndex s % TCount) 
 unfoldable pub mapping : ℕ → List ℕ
 mapping s = cond (precomposed s) (cond (eqb (SIndex s % TCount) 0) (mapLV s) (mapLVT s)) (s ∷ [])
 
--- 'Full Canonical Decomposition': LIndex, VIndex and TIndex of a syllable, and its two or three letters
+-- 'Full Canonical Decomposition': LIndex, VIndex and TIndex of a syllable, and its two or three
+-- letters
 unfoldable pub decomposition : ℕ → List ℕ
 decomposition s =
     cond (precomposed s)

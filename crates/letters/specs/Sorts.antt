@@ -1,5 +1,5 @@
--- The sort of a code point: document 01, 'Sorts of characters', line by line.
--- A number that is no code point is other as well: the calls refuse it first. Assumes nothing.
+-- The sort of a code point: document 01, 'Sorts of characters', line by line. A number that is no
+-- code point is other as well: the calls refuse it first.
 use mathlib.Core.Bool.{Bool, cond}
 use mathlib.Core.List.{List, [], _∷_}
 use Prim.Native.Nat.{ℕ, _-_, _%_}

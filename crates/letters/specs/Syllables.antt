@@ -1,5 +1,4 @@
 -- Taking syllables apart: document 01, 'Syllables'. A text is a list of code points.
--- Not here: the Standard's own words for it (specs/Chapter3), which proofs/Chapter3 shows to be the same. Assumes nothing.
 use mathlib.Core.Bool.{Bool, cond}
 use mathlib.Core.List.{List, [], _∷_}
 use Prim.Native.Nat.{ℕ, zero, suc, _+_, _-_, _/_, _%_}
@@ -23,7 +22,8 @@ peakOf s = indexOf s % 588 / 28
 abbrev pub finalOf : ℕ → ℕ
 finalOf s = indexOf s % 28
 
--- one step: an LV becomes 1100+I, 1161+P; an LVT becomes the LV of index C − F, then 11A7+F; any other code point is itself
+-- one step: an LV becomes 1100+I, 1161+P; an LVT becomes the LV of index C − F, then 11A7+F; any
+-- other code point is itself
 unfoldable pub oneStep : ℕ → List ℕ
 oneStep s =
     cond (isSyllable s)

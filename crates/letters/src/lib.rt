@@ -1,4 +1,17 @@
-// The lowest layer of Hangul: its definitions, types and laws. It has no functions.
-// Not here: the sorter (crate letters_sort), the one step (letters_step), how many have each sort (letters_counts), full parts (letters_apart), joining them again (joining).
-pub mod sort;
-pub mod step;
+// Code points and syllables: the sort of a code point, one step of taking it apart, the full parts
+// of a code point and of a text (document 01, 'Sorts of characters', 'Syllables').
+mod parts;
+mod sort;
+mod step;
+
+pub use parts::Whole;
+pub use parts::full_parts;
+pub use parts::full_parts_of;
+pub use sort::Sort;
+pub use sort::Sorted;
+pub use sort::sort_of;
+pub use sort::sorter;
+pub use step::Parts;
+pub use step::Stepped;
+pub use step::one_step;
+pub use step::parts_of;

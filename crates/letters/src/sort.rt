@@ -1,6 +1,11 @@
-// The sorts of characters (document 01, 'Sorts of characters'): the types of which the definitions speak.
-// Not here: the sorter (crate letters_sort), what a sort's letters do (joining, clusters).
+// The sort of a code point (document 01, 'Sorts of characters').
 use answers::Refusal;
+ghost use mathlib.Core.Path.{_≡_};
+ghost use mathlib.Core.List.{[], _∷_};
+ghost use Rattle.answers.specs.Checks.{badCodePoint};
+ghost use Rattle.answers.specs.Verdicts.{verdict};
+ghost use Rattle.letters.specs.Sorts.{sortOf};
+ghost use Rattle.letters.specs.Answers.{sorted};
 
 pub enum Sort {
     ModernInitial,
@@ -20,4 +25,36 @@ pub enum Sort {
 pub enum Sorted {
     Is(Sort),
     Refused(Refusal),
+}
+
+// The sort of any number: what is no code point is other.
+pub fn sort_of(code: u32) -> Sort
+    ensures { λ r. ⌜ r ≡ sortOf code ⌝ }
+{
+    match code {
+        0x1100..=0x1112 => Sort::ModernInitial,
+        0x1113..=0x1159 => Sort::OldInitial,
+        0x115F => Sort::InitialFiller,
+        0x1160 => Sort::PeakFiller,
+        0x1161..=0x1175 => Sort::ModernPeak,
+        0x1176..=0x11A2 => Sort::OldPeak,
+        0x11A8..=0x11C2 => Sort::ModernFinal,
+        0x11C3..=0x11F9 => Sort::OldFinal,
+        0xAC00..=0xD7A3 => if (code - 0xAC00) % 28 == 0 {
+            Sort::Lv
+        } else {
+            Sort::Lvt
+        },
+        _ => Sort::Other,
+    }
+}
+
+// The sort of a code point, or refusal 2.
+pub fn sorter(code: u32) -> Sorted
+    ensures { λ r. ⌜ sorted r ≡ verdict (badCodePoint (code ∷ [])) (sortOf code) ⌝ }
+{
+    if answers::is_bad(code) {
+        return Sorted::Refused(Refusal::BadCodePoint(0));
+    }
+    Sorted::Is(sort_of(code))
 }

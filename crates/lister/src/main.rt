@@ -1,12 +1,11 @@
-// lister: lists the characters of the text on standard input, a line each (document 01, 'Programs').
-// It reads, calls and writes; the list is crate listing's.
+// lister: lists the characters of the text on standard input, a line each (document 01,
+// 'Programs'). It reads, calls and writes; the list is crate listing's.
 use answers::Filled;
-use listing::lines;
 
-// One byte more than the limit, so that a text over it is seen to be.
+// One byte more than the limit, so that a text over the limit shows.
 const TEXT: usize = 16385;
 
-// Ten for each byte that is taken always do.
+// Ten for each byte that is taken are always enough.
 const ROOM: usize = 163840;
 
 // Writes the first `size` bytes.
@@ -22,7 +21,7 @@ fn write_answer(answer: Filled, listed: &[u8]) -> bool {
     match answer {
         Filled::Done(length) => write_front(listed, length),
         Filled::Refused(refusal) => {
-            let line = answers_told::refusal_line(refusal);
+            let line = answers::refusal_line(refusal);
             io::write_all(libc::STDOUT_FILENO, &line)
         }
     }
@@ -32,6 +31,6 @@ fn main() {
     let mut text = [0u8; TEXT];
     let mut listed = [0u8; ROOM];
     let size = io::read_full(libc::STDIN_FILENO, &mut text);
-    let answer = lines::list(&text[..size], &mut listed);
+    let answer = listing::list(&text[..size], &mut listed);
     write_answer(answer, &listed);
 }

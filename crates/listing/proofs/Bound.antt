@@ -1,6 +1,5 @@
--- How long a list is: at most ten bytes for each byte of the text (`listed-most`), since a syllable has three bytes of its own, and its line at most 29
--- (`line-bytes`).
--- Not here: how long a line is (crate listing_line, proofs/Bound), the bound over any lines (crate mending, proofs/Bound). Assumes nothing.
+-- How long a list is: at most ten bytes for each byte of the text (`listed-most`), since a syllable
+-- has three bytes of its own, and its line at most 29 (`line-bytes`).
 use mathlib.Core.List.{List}
 use Prim.Native.Nat.{ℕ, _*_, _≤_}
 use native.Mathlib.Omega.{arith}
@@ -11,8 +10,8 @@ use Rattle.letters.proofs.Steps.{syllable-least, syllable-most, syllable-above}
 use Rattle.utf8.specs.Utf8.{bytesOf}
 use Rattle.utf8.proofs.Writing.{long-three, bytes-least}
 use Rattle.mending.proofs.Bound.{each-most}
-use Rattle.listing_line.specs.Line.{lineOf}
-use Rattle.listing_line.proofs.Bound.{line-named, line-few}
+use Rattle.listing.specs.Line.{lineOf}
+use Rattle.listing.proofs.LineBound.{line-named, line-few}
 use Rattle.listing.specs.Listing.{listed}
 
 line-bytes : (c : ℕ) → length (lineOf c) ≤ 10 * length (bytesOf c)

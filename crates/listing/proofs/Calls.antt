@@ -1,6 +1,5 @@
--- The ways in which the call returns (`lists-refused`, `lists-lacking`, `lists-done`), and that ANY TWO RESULTS THAT THE CONTRACT ADMITS ARE EQUAL
--- (`lists-unique`).
--- Not here: what is listed (proofs/Turns), the scheme of every call that fills a lent buffer (crate answers, proofs/Verdicts). Assumes nothing.
+-- How the call returns (`lists-refused`, `lists-lacking`, `lists-done`), and ANY TWO RESULTS THAT
+-- THE CONTRACT ADMITS ARE EQUAL (`lists-unique`).
 use mathlib.Core.Path.{_≡_, sym, _∙_, ap}
 use mathlib.Core.List.{List}
 use Prim.Native.Nat.{ℕ}
@@ -8,12 +7,12 @@ use lib.ListN.{length}
 use Rattle.laws.specs.Writing.{Fronts}
 use Rattle.answers.specs.Checks.{passes, lacking, takesBytes}
 use Rattle.answers.specs.Answers.{checked}
-use Rattle.answers.specs.declared.Refusal.{Refusal}
-use Rattle.answers.specs.declared.Refusal.the-variants.{NoRoom}
-use Rattle.answers.specs.declared.Checked.{Checked}
-use Rattle.answers.specs.declared.Checked.the-variants.{Refused as CheckRefused}
-use Rattle.answers.specs.declared.Filled.{Filled}
-use Rattle.answers.specs.declared.Filled.the-variants.{Done, Refused}
+use Rattle.answers.specs.declared.refusal.Refusal.{Refusal}
+use Rattle.answers.specs.declared.refusal.Refusal.the-variants.{NoRoom}
+use Rattle.answers.specs.declared.answer.Checked.{Checked}
+use Rattle.answers.specs.declared.answer.Checked.the-variants.{Refused as CheckRefused}
+use Rattle.answers.specs.declared.answer.Filled.{Filled}
+use Rattle.answers.specs.declared.answer.Filled.the-variants.{Done, Refused}
 use Rattle.answers.proofs.Answers.{filled-injective}
 use Rattle.answers.proofs.Checks.{lacking-size, lacking-less, lacking-room}
 use Rattle.answers.proofs.Verdicts.{refused-before, refused-room, filled-whole, fills-unique}

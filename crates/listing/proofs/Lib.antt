@@ -1,5 +1,9 @@
--- Crate listing, proofs/: the laws of the list: how long it is at most; then of the loops and of the call.
--- Not here: the definition (specs/), and the proofs of the functions, which stand in folders of their own.
+-- The laws of crate listing. What a caller may cite is `pub mod`; functions' proofs have folders of
+-- their own.
+pub mod Digits
+mod HexWriting
+mod LineWriting
+pub mod LineBound
 pub mod Bound
 pub mod Turns
 pub mod Calls

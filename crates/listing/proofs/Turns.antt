@@ -1,7 +1,7 @@
--- The loops over a text's characters. In order: what is listed from an index on is the character's line and then what is listed behind it
--- (`listed-next`), and nothing at the end (`listed-end`); what the loop that writes keeps (`Writing`) and the one that counts (`Tallying`), with the laws
+-- The loops over a text's characters. In order: what is listed from an index on is the character's
+-- line and then what is listed after it (`listed-next`), and nothing at the end (`listed-end`);
+-- what the loop that writes keeps (`Writing`) and the one that counts (`Tallying`), with the laws
 -- of their turns.
--- Not here: what a character is (crate mending, proofs/Characters), writing its line (crate listing_line). Assumes nothing.
 use mathlib.Core.Path.{_≡_, _∙_, ap}
 use mathlib.Core.List.{List, []}
 use Prim.Native.Nat.{ℕ, _+_, _≤_}
@@ -10,12 +10,11 @@ use lib.ListN.{length, drop, drop-of-length-le}
 use Rattle.laws.specs.Lists.{each}
 use Rattle.laws.specs.Writing.{Room, Wrote, Fronts}
 use Rattle.laws.proofs.Lists.{each-nil, each-cons}
-use Rattle.laws.proofs.Filling.{Piece, wrote-length, Filling, filling-none, filling-room, filling-more, filling-all}
-use Rattle.laws.proofs.Filling.{Counting, counting-none, counting-fits, counting-more, counting-all}
-use Rattle.utf8.specs.declared.read.Taken.{Taken}
+use Rattle.laws.proofs.Filling.{Piece, wrote-length, Filling, filling-none, filling-room, filling-more, filling-all, Counting, counting-none, counting-fits, counting-more, counting-all}
+use Rattle.utf8.specs.declared.decode.Taken.{Taken}
 use Rattle.mending.proofs.Characters.{Character}
-use Rattle.listing_line.specs.Line.{lineOf}
-use Rattle.listing_line.proofs.Bound.{line-most}
+use Rattle.listing.specs.Line.{lineOf}
+use Rattle.listing.proofs.LineBound.{line-most}
 use Rattle.listing.specs.Listing.{listed}
 use Rattle.listing.proofs.Bound.{listed-most}
 
@@ -40,14 +39,13 @@ module _ (text : List ℕ) {out₀ : List ℕ} where
 
   module _ {out : List ℕ} {read written : ℕ} (w : Writing text out₀ out read written) where
     module _ (fits : length (listed text) ≤ length out₀) {t : Taken} (character : Character text read t) where
-      line-room : Room out written (lineOf (t .code))
+      pub line-room : Room out written (lineOf (t .code))
       line-room = filling-room fits (w .filling) (listed-next text read character)
 
-      pub writing-more : {k : ℕ} {out′ : List ℕ} → (Room out written (lineOf (t .code)) → Wrote out written (lineOf (t .code)) k out′)
-          → Writing text out₀ out′ (read + t .size) k
-      writing-more put = record {
+      pub writing-more : {k : ℕ} {out′ : List ℕ} → Wrote out written (lineOf (t .code)) k out′ → Writing text out₀ out′ (read + t .size) k
+      writing-more wrote = record {
         inside = character .goes .inside;
-        filling = filling-more fits (w .filling) (listed-next text read character) (put line-room);
+        filling = filling-more fits (w .filling) (listed-next text read character) wrote;
       }
 
     pub writing-all : length text ≤ read → Fronts (listed text) out₀ written out
@@ -65,11 +63,10 @@ module _ (text : List ℕ) {line : List ℕ} where
   tallying-none e = record { inside = omega arith; place = e; counting = counting-none (listed text) }
 
   module _ {read counted : ℕ} (w : Tallying text line read counted) where
-    module _ {t : Taken} (character : Character text read t) {k : ℕ} {line′ : List ℕ}
-        (put : Room line 0 (lineOf (t .code)) → Wrote line 0 (lineOf (t .code)) k line′) where
-      wrote : Wrote line 0 (lineOf (t .code)) k line′
-      wrote = put (record { fits = omega (arith, w .place, line-most (t .code)) })
+    pub place-room : (c : ℕ) → Room line 0 (lineOf c)
+    place-room c = record { fits = omega (arith, w .place, line-most c) }
 
+    module _ {t : Taken} (character : Character text read t) {k : ℕ} {line′ : List ℕ} (wrote : Wrote line 0 (lineOf (t .code)) k line′) where
       length-is : k ≡ length (lineOf (t .code))
       length-is = omega (arith, wrote .behind)
 

@@ -1,3 +1,5 @@
--- Crate listing, specs/: the list of a text's characters.
--- Not here: any law or proof (proofs/).
+-- The definitions of crate listing, lowest first: a code in hex, the line of a character, the list
+-- of a text's characters.
+pub mod Hex
+pub mod Line
 pub mod Listing

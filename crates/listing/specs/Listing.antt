@@ -1,5 +1,5 @@
--- The list of a text's characters: document 01, 'Programs', the lister: a text of bytes is mended, and each joined character gives a line.
--- Not here: reading (crate utf8), joining (crate joining), the line (crate listing_line). Assumes nothing.
+-- The list of a text's characters: document 01, 'Programs', the lister. A text of bytes is mended,
+-- and each joined character gives a line.
 use mathlib.Core.List.{List}
 use Prim.Native.Nat.{ℕ}
 use lib.ListN.{length}
@@ -7,10 +7,10 @@ use Rattle.laws.specs.Lists.{each}
 use Rattle.answers.specs.Checks.{takesBytes}
 use Rattle.answers.specs.Verdicts.{Fills}
 use Rattle.answers.specs.Answers.{filled}
-use Rattle.answers.specs.declared.Filled.{Filled}
+use Rattle.answers.specs.declared.answer.Filled.{Filled}
 use Rattle.joining.specs.Joining.{join}
 use Rattle.utf8.specs.Utf8.{readText}
-use Rattle.listing_line.specs.Line.{lineOf}
+use Rattle.listing.specs.Line.{lineOf}
 
 -- THE LIST
 unfoldable pub listed : List ℕ → List ℕ

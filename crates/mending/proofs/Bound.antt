@@ -1,12 +1,13 @@
--- How long it is what the joined characters of a text give: at most b bytes for each byte of the text, where a code point gives at most b for each of
--- its own bytes in UTF-8, and U+FFFD no more than b (`Bounded`, `each-most`). So a mended text has at most three bytes for each byte of the text
--- (`mended-most`): what grows is an ill-formed part of one byte or two, which becomes the three bytes of U+FFFD.
--- Not here: how long what is read or joined is by itself (crates utf8 and joining), and any buffer.
+-- How long it is what the joined characters of a text give: at most b bytes for each byte of the
+-- text, where a code point gives at most b for each of its own bytes in UTF-8, and U+FFFD no more
+-- than b (`Bounded`, `each-most`). So a mended text has at most three bytes for each byte of the
+-- text (`mended-most`): what grows is an ill-formed part of one byte or two, which becomes the
+-- three bytes of U+FFFD.
 --
--- In order: the bound of one code point (`Bounded`); code points that are covered by so many units (`Covers`), as those are that a text reads as
--- (`reading-covers`); what joins is a syllable and gives no more (`second-units`, `pair-most`, `joined-covered`); the bound (`each-most`), and of a
+-- In order: the bound of one code point (`Bounded`); code points that are covered by so many units
+-- (`Covers`), as those are that a text reads as (`reading-covers`); what joins is a syllable and
+-- gives no more (`second-units`, `pair-most`, `joined-covered`); the bound (`each-most`), and of a
 -- mended text (`mended-most`).
--- Assumes nothing.
 use mathlib.Core.Path.{_≡_, refl, sym, ap}
 use mathlib.Core.Bool.{false}
 use mathlib.Core.List.{List, [], _∷_}
@@ -32,16 +33,17 @@ use Rattle.utf8.specs.Utf8.{valueOf, bytesOf, utf8, readText}
 use Rattle.utf8.proofs.Forms.{full-good}
 use Rattle.utf8.proofs.Reading.{reading8, maximal-some}
 use Rattle.utf8.proofs.Writing.{long-three}
-use Rattle.utf8_round.proofs.Round.{full-bytes}
+use Rattle.utf8.proofs.Round.{full-bytes}
 use Rattle.mending.specs.Mending.{mended}
 
--- what f gives of a code point is at most b for each byte of that code point, and of U+FFFD at most b, since that may stand for one byte
+-- what f gives of a code point is at most b for each byte of that code point, and of U+FFFD at most
+-- b, since that may stand for one byte
 pub record Bounded (f : ℕ → List ℕ) (b : ℕ) : Type 0 where
   pub of-code : (c : ℕ) → bad c ≡ false → length (f c) ≤ b * length (bytesOf c)
   pub of-ill : length (f 0xFFFD) ≤ b
 
--- so many units cover a list of code points: each code point has k of them and gives at most b for each, and they are no fewer than its bytes where it
--- is not U+FFFD
+-- so many units cover a list of code points: each code point has k of them and gives at most b for
+-- each, and they are no fewer than its bytes where it is not U+FFFD
 data Covers (f : ℕ → List ℕ) (b : ℕ) : List ℕ → ℕ → Type 0 where
   nobody : Covers f b [] 0
   with-units : {c : ℕ} {x : List ℕ} (k : ℕ) {n : ℕ} → length (f c) ≤ b * k → ((c ≡ 0xFFFD → ⊥) → length (bytesOf c) ≤ k) → Covers f b x n

@@ -1,9 +1,9 @@
--- The first character of a text of bytes. In order: a piece in front (`taken-code`, `taken-size`); a character that takes in nothing (`apart-ill`,
--- `apart-end`, `stops`, `goes-not`); taking in one piece, as the code does (`once-none`, `once-some`, `once-inside`), and that two are all; the
--- functions' returns (`behind-first`, `next-inside`, `first-inside`, `first-all`, `second-inside`, `second-all`, `third-all`); and THE FIRST
--- CHARACTER IS THE JOINER'S: what is joined from an index on is that character and then what is joined behind it (`Character`, `character-next`).
--- Not here: bytes that pass (proofs/Passes), the loops over a text (proofs/Turns).
--- Assumes nothing.
+-- The first character of a text of bytes. In order: a piece in front (`taken-code`, `taken-size`);
+-- a character that takes in nothing (`apart-ill`, `apart-end`, `stops`, `goes-not`); taking in one
+-- piece, as the code does (`once-none`, `once-some`, `once-inside`), and that two are all; the
+-- functions' returns (`behind-first`, `next-inside`, `first-inside`, `first-all`, `second-inside`,
+-- `second-all`, `third-all`); and THE FIRST CHARACTER IS THE JOINER'S: what is joined from an index
+-- on is that character and then what is joined after it (`Character`, `character-next`).
 use mathlib.Core.Path.{_≡_, refl, sym, _∙_, ap}
 use mathlib.Core.Bool.{Bool, true, false, cond, false≢true}
 use mathlib.Core.List.{List, [], _∷_, _++_, nil≢cons}
@@ -27,12 +27,12 @@ use Rattle.joining.proofs.Joins.{join-one, join-apart, join-joined}
 use Rattle.utf8.specs.Table37.{kindOf}
 use Rattle.utf8.specs.Utf8.{utf8, bytesOf, readText, writeText, illText}
 use Rattle.utf8.specs.Reading.{goodOf, takenFrom}
-use Rattle.utf8.specs.declared.read.Taken.{Taken}
+use Rattle.utf8.specs.declared.decode.Taken.{Taken}
 use Rattle.utf8.proofs.Takes.{behind, units-inside, Next, taken-next}
 use Rattle.utf8.proofs.Reading.{next-good}
 use Rattle.mending.specs.Mending.{mended}
-use Rattle.mending.specs.Characters.{meets, taking, grownOnce, grown, behindFirst, characterFrom, goesOnAs}
-use Rattle.mending.specs.Steps.{Goes}
+use Rattle.mending.specs.Characters.{meetsPiece, taking, grownOnce, grown, behindFirst, characterFrom, roleGoesOn}
+use Rattle.mending.specs.Inner.{Goes}
 
 -- ---- a piece in front
 
@@ -55,30 +55,30 @@ apart-end a = pair-firm a 0 (role-between 0 0 0 tt (omega arith) (omega arith)) 
 
 pub stops : (t : Taken) (P : List (Piece ℕ)) → ((b : ℕ) → pair (t .code) b ≡ 0) → grown t P ≡ t
 stops t [] h = refl
-stops t (w ∷ P) h = rw (eq-eqb (meets t w) 0 (h (codeOf utf8 w)))
+stops t (w ∷ P) h = rw (eq-eqb (meetsPiece t w) 0 (h (codeOf utf8 w)))
 
-pub goes-not : (a : ℕ) → goesOnAs (roleOf a) ≡ false → (b : ℕ) → pair a b ≡ 0
+pub goes-not : (a : ℕ) → roleGoesOn (roleOf a) ≡ false → (b : ℕ) → pair a b ≡ 0
 goes-not a h b =
-    pair-behind a b (λ (e : roleOf a ≡ Initial). false≢true (sym h ∙ ap goesOnAs e)) (λ (e : roleOf a ≡ Lv). false≢true (sym h ∙ ap goesOnAs e))
+    pair-behind a b (λ (e : roleOf a ≡ Initial). false≢true (sym h ∙ ap roleGoesOn e)) (λ (e : roleOf a ≡ Lv). false≢true (sym h ∙ ap roleGoesOn e))
 
--- ---- taking in one piece, as the code does: `next` is what begins behind t
+-- ---- taking in one piece, as the code does: `next` is what begins after t
 
 module _ (t : Taken) {next : Taken} where
   pub once-none : (P : List (Piece ℕ)) → next ≡ takenFrom P → pair (t .code) (next .code) ≡ 0 → t ≡ grownOnce t P
   once-none [] e h = refl
   once-none (w ∷ P) e h =
-      let z : meets t w ≡ 0 = ap (pair (t .code)) (sym (ap (λ (n : Taken). n .code) e ∙ taken-code w P)) ∙ h in
-      rw (eq-eqb (meets t w) 0 z)
+      let z : meetsPiece t w ≡ 0 = ap (pair (t .code)) (sym (ap (λ (n : Taken). n .code) e ∙ taken-code w P)) ∙ h in
+      rw (eq-eqb (meetsPiece t w) 0 z)
 
   pub once-some : (P : List (Piece ℕ)) → next ≡ takenFrom P → {k : ℕ} → k ≡ pair (t .code) (next .code) → (k ≡ 0 → ⊥)
       → record { code = k; size = t .size + next .size; ill = t .ill } ≡ grownOnce t P
   once-some [] e q h = absurd (h (q ∙ ap (λ (n : Taken). pair (t .code) (n .code)) e ∙ apart-end (t .code)))
   once-some (w ∷ P) e q h =
-      let z : pair (t .code) (next .code) ≡ meets t w = ap (pair (t .code)) (ap (λ (n : Taken). n .code) e ∙ taken-code w P) in
+      let z : pair (t .code) (next .code) ≡ meetsPiece t w = ap (pair (t .code)) (ap (λ (n : Taken). n .code) e ∙ taken-code w P) in
       let s : next .size ≡ length (units w) = ap (λ (n : Taken). n .size) e ∙ taken-size w P in
-      rw (ne-eqb (meets t w) 0 (λ (n : meets t w ≡ 0). h (q ∙ z ∙ n)), q, z, s)
+      rw (ne-eqb (meetsPiece t w) 0 (λ (n : meetsPiece t w ≡ 0). h (q ∙ z ∙ n)), q, z, s)
 
--- ---- how far it grows: P is what begins behind t, which begins at an index
+-- ---- how far it grows: P is what begins after t, which begins at an index
 
 module _ (text : List ℕ) (at : ℕ) where
   pieces-behind : (t : Taken) (w : Piece ℕ) (P : List (Piece ℕ)) → pieces kindOf (drop (at + t .size) text) ≡ w ∷ P
@@ -94,13 +94,13 @@ module _ (text : List ℕ) (at : ℕ) where
   pub once-inside : (t : Taken) (P : List (Piece ℕ)) → pieces kindOf (drop (at + t .size) text) ≡ P → at + t .size ≤ length text
       → at + grownOnce t P .size ≤ length text
   once-inside t [] e h = h
-  once-inside t (w ∷ P) e h = test (eqb (meets t w) 0) (λ q. rw q h) (λ q. rw q (inside-behind t w P e h))
+  once-inside t (w ∷ P) e h = test (eqb (meetsPiece t w) 0) (λ q. rw q h) (λ q. rw q (inside-behind t w P e h))
 
   -- with a piece taken in, one more is all
   once-then : (t : Taken) (w : Piece ℕ) (P : List (Piece ℕ)) → grownOnce (taking t w) P ≡ grown (taking t w) P
   once-then t w [] = refl
   once-then t w (v ∷ P) =
-      test (eqb (meets (taking t w) v) 0) (λ q. rw q)
+      test (eqb (meetsPiece (taking t w) v) 0) (λ q. rw q)
       (λ q. rw (q, stops (taking (taking t w) v) P (no-fourth (t .code) (codeOf utf8 w) (codeOf utf8 v))))
 
   -- so twice is all, from any t
@@ -108,13 +108,13 @@ module _ (text : List ℕ) (at : ℕ) where
       → grownOnce (grownOnce t P) (pieces kindOf (drop (at + grownOnce t P .size) text)) ≡ grown t P
   twice t [] e = rw e
   twice t (w ∷ P) e =
-      test (eqb (meets t w) 0) (λ q. rw (q, e, q)) (λ q. rw (q, pieces-behind t w P e) (once-then t w P))
+      test (eqb (meetsPiece t w) 0) (λ q. rw (q, e, q)) (λ q. rw (q, pieces-behind t w P e) (once-then t w P))
 
   -- and once is, where that goes on with nothing
   once : (t : Taken) (P : List (Piece ℕ)) → pieces kindOf (drop (at + t .size) text) ≡ P
       → ((b : ℕ) → pair (grownOnce t P .code) b ≡ 0) → grownOnce t P ≡ grown t P
   once t [] e = λ h. refl
-  once t (w ∷ P) e = test (eqb (meets t w) 0) (λ q. rw q (λ h. refl)) (λ q. rw q (λ h. sym (stops (taking t w) P h)))
+  once t (w ∷ P) e = test (eqb (meetsPiece t w) 0) (λ q. rw q (λ h. refl)) (λ q. rw q (λ h. sym (stops (taking t w) P h)))
 
 -- ---- the functions' returns
 
@@ -127,8 +127,8 @@ begins-inside text at w P e =
     absurd (nil≢cons (rw (drop-of-length-le text h) at e)))
     (λ q. ltb-false (length text) at q)
 
-end-not : goesOnAs (roleOf 0) ≡ false
-end-not = ap goesOnAs (role-between 0 0 0 tt (omega arith) (omega arith))
+end-not : roleGoesOn (roleOf 0) ≡ false
+end-not = ap roleGoesOn (role-between 0 0 0 tt (omega arith) (omega arith))
 
 from-first : (P : List (Piece ℕ)) {t : Taken} → t ≡ takenFrom P → grown t (behindFirst P) ≡ characterFrom P
 from-first P e = rw e
@@ -143,7 +143,7 @@ module _ (text : List ℕ) (at : ℕ) where
   inside-next [] e h = omega arith
   inside-next (w ∷ P) e h = rw (taken-size w P) (units-inside text at w P e h)
 
-  inside-first : (P : List (Piece ℕ)) → pieces kindOf (drop at text) ≡ P → goesOnAs (roleOf (takenFrom P .code)) ≡ true
+  inside-first : (P : List (Piece ℕ)) → pieces kindOf (drop at text) ≡ P → roleGoesOn (roleOf (takenFrom P .code)) ≡ true
       → at + takenFrom P .size ≤ length text
   inside-first [] e h = absurd (false≢true (sym end-not ∙ h))
   inside-first (w ∷ P) e h = inside-next (w ∷ P) e (begins-inside text at w P e)
@@ -155,19 +155,19 @@ module _ (text : List ℕ) (at : ℕ) where
     pub next-inside : at ≤ length text → at + t .size ≤ length text
     next-inside h = rw taken (inside-next (pieces kindOf (drop at text)) refl h)
 
-    pub first-inside : goesOnAs (roleOf (t .code)) ≡ true → at + t .size ≤ length text
+    pub first-inside : roleGoesOn (roleOf (t .code)) ≡ true → at + t .size ≤ length text
     first-inside h = rw taken (inside-first (pieces kindOf (drop at text)) refl (rw taken at h))
 
     -- it goes on with nothing
-    pub first-all : goesOnAs (roleOf (t .code)) ≡ false → t ≡ characterFrom (pieces kindOf (drop at text))
+    pub first-all : roleGoesOn (roleOf (t .code)) ≡ false → t ≡ characterFrom (pieces kindOf (drop at text))
     first-all h = sym (stops t (behindFirst (pieces kindOf (drop at text))) (goes-not (t .code) h)) ∙ from-first (pieces kindOf (drop at text)) taken
 
     -- s is t with one piece taken in
     module _ {s : Taken} (grew : s ≡ grownOnce t (pieces kindOf (drop (at + t .size) text))) where
-      pub second-inside : goesOnAs (roleOf (t .code)) ≡ true → at + s .size ≤ length text
+      pub second-inside : roleGoesOn (roleOf (t .code)) ≡ true → at + s .size ≤ length text
       second-inside h = rw grew (once-inside text at t (pieces kindOf (drop (at + t .size) text)) refl (first-inside h))
 
-      pub second-all : goesOnAs (roleOf (s .code)) ≡ false → s ≡ characterFrom (pieces kindOf (drop at text))
+      pub second-all : roleGoesOn (roleOf (s .code)) ≡ false → s ≡ characterFrom (pieces kindOf (drop at text))
       second-all h =
           grew ∙ once text at t (pieces kindOf (drop (at + t .size) text)) refl (rw grew at (goes-not (s .code) h))
           ∙ ap (grown t) behind-first ∙ from-first (pieces kindOf (drop at text)) taken
@@ -194,7 +194,7 @@ module _ (text : List ℕ) (at : ℕ) where
       → join (t .code ∷ codes utf8 P) ≡ t .code ∷ join (codes utf8 P) → Grows text at t P t
   stays t P e h g j = record { joins = rw e j; ills = rw e; same = refl; more = omega arith; inside = h; is-good = g }
 
-  takes : (t : Taken) (w : Piece ℕ) (P : List (Piece ℕ)) → (meets t w ≡ 0 → ⊥) → {r : Taken} → Grows text at (taking t w) P r → Grows text at t
+  takes : (t : Taken) (w : Piece ℕ) (P : List (Piece ℕ)) → (meetsPiece t w ≡ 0 → ⊥) → {r : Taken} → Grows text at (taking t w) P r → Grows text at t
       (w ∷ P) r
   takes t (ill u) P n g = absurd (n (apart-ill (t .code)))
   takes t (good u) P n g = record {
@@ -210,15 +210,15 @@ module _ (text : List ℕ) (at : ℕ) where
       → Grows text at t P (grown t P)
   grows t [] e h g = stays t [] e h g (join-one (t .code))
   grows t (w ∷ P) e h g =
-      test (eqb (meets t w) 0)
-      (λ q. rw q (stays t (w ∷ P) e h g (join-apart (t .code) (codeOf utf8 w) (codes utf8 P) (eqb-true (meets t w) 0 q))))
+      test (eqb (meetsPiece t w) 0)
+      (λ q. rw q (stays t (w ∷ P) e h g (join-apart (t .code) (codeOf utf8 w) (codes utf8 P) (eqb-true (meetsPiece t w) 0 q))))
       (λ q.
-      let n : meets t w ≡ 0 → ⊥ = eqb-false (meets t w) 0 q in
+      let n : meetsPiece t w ≡ 0 → ⊥ = eqb-false (meetsPiece t w) 0 q in
       rw q (takes t w P n (grows (taking t w) P (pieces-behind text at t w P e) (inside-behind text at t w P e h)
       (pair-good (t .code) (codeOf utf8 w) n))))
 
--- r is the character at an index: the joined text is its code point and then the joined text behind it, and the mended text its bytes and then the
--- mended text behind it
+-- r is the character at an index: the joined text is its code point and then the joined text after
+-- it, and the mended text its bytes and then the mended text after it
 pub record Character (text : List ℕ) (at : ℕ) (r : Taken) : Type 0 where
   pub joins : join (readText (drop at text)) ≡ r .code ∷ join (readText (drop (at + r .size) text))
   pub goes : Goes text at (at + r .size) (bytesOf (r .code)) (r .ill)

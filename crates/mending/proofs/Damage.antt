@@ -1,12 +1,13 @@
--- Demand 3 of the mended text: how far damage in the middle reaches, for every beginning, every ending and whatever stands between them, and over the
--- public call's contract. The general law stands in crate laws (proofs/Damage); here it is at UTF-8 and the joiner.
--- Not here: what the places `beginning` and `ending` are in plain words (crate laws, specs/Places), and the code that mends.
+-- Demand 3 of the mended text: how far damage in the middle reaches, for every beginning, every
+-- ending and whatever stands between them, and over the public call's contract. The general law
+-- stands in crate laws (proofs/Damage); here it is at UTF-8 and the joiner.
 --
--- In order: what is not soft joins with nothing before it (`soft-hard`); joining and writing may be cut (`joined-cuttable`); mending is the general
--- one (`mended-mend`), keeps its beginning and its ending (`mended-keeps`), where these have their places (`ending-at`, `beginning-at`), and falls
--- apart around ill-formed bytes (`mended-around`); what a call that is done filled and counted (`done-filled`, `done-ills`, `done-few`);
--- demand 3 over the call (`call-keeps`, `call-around`, `demand-3`).
--- Assumes nothing.
+-- In order: what is not soft joins with nothing before it (`soft-hard`); joining and writing may be
+-- cut (`joined-cuttable`); mending is the general one (`mended-mend`), keeps its beginning and its
+-- ending (`mended-keeps`), where these have their places (`ending-at`, `beginning-at`), and falls
+-- apart around ill-formed bytes (`mended-around`); what a call that is done filled and counted
+-- (`done-filled`, `done-ills`, `done-few`); demand 3 over the call (`call-keeps`, `call-around`,
+-- `demand-3`).
 use mathlib.Core.Path.{_≡_, refl, sym, _∙_, ap}
 use mathlib.Core.Bool.{false, false≢true}
 use mathlib.Core.List.{List, [], _∷_, _++_}
@@ -27,12 +28,12 @@ use Rattle.joining.proofs.Joins.{join-one, join-cut, mark-around}
 use Rattle.utf8.specs.Table37.{kindOf}
 use Rattle.utf8.specs.Utf8.{bytesOf, utf8, illText, writeText}
 use Rattle.utf8.specs.Reading.{Reads}
-use Rattle.utf8.specs.declared.read.Counted.{Counted}
-use Rattle.utf8.specs.declared.read.Read.the-variants.{Done}
+use Rattle.utf8.specs.declared.text.Counted.{Counted}
+use Rattle.utf8.specs.declared.text.Read.the-variants.{Done}
 use Rattle.utf8.proofs.Rows.{leads8}
 use Rattle.utf8.proofs.Writing.{bytes-three, write-append}
 use Rattle.utf8.proofs.Reading.{read-most, ills-most}
-use Rattle.mending.specs.Mending.{mended, softAs, soft, joinedBytes, filled, SameAround}
+use Rattle.mending.specs.Mending.{mended, softAs, soft, joinedBytes, filledFront, SameAround}
 
 -- ---- joining and writing may be cut
 
@@ -69,14 +70,16 @@ mended-mend t = refl
 pub mended-keeps : (b c z : List ℕ) → Kept utf8 joinedBytes b c z
 mended-keeps b c z = keeps utf8 joinedBytes leads8 joined-cuttable b c z
 
--- and where its places are: the first character of the ending that is no vowel and no final, and the last such of the beginning
+-- and where its places are: the first character of the ending that is no vowel and no final, and
+-- the last such of the beginning
 pub ending-at : (z : List ℕ) → EndingPlace utf8 joinedBytes z
 ending-at z = ending-place utf8 joinedBytes z
 
 pub beginning-at : (b : List ℕ) → BeginningFound utf8 joinedBytes b
 beginning-at b = beginning-place utf8 joinedBytes b
 
--- NO SYLLABLE ACROSS ILL-FORMED BYTES: around each ill-formed part, what all before it is mended to, one U+FFFD, what all behind it is mended to
+-- NO SYLLABLE ACROSS ILL-FORMED BYTES: around each ill-formed part, what all before it is mended
+-- to, one U+FFFD, what all after it is mended to
 pub mended-around : (t : List ℕ) (P : List (Piece ℕ)) (u : List ℕ) (Q : List (Piece ℕ)) → pieces kindOf t ≡ P ++ ill u ∷ Q
     → (t ≡ unitsOf P ++ (u ++ unitsOf Q)) × (mended t ≡ mended (unitsOf P) ++ ((0xEF ∷ 0xBF ∷ 0xBD ∷ []) ++ mended (unitsOf Q)))
 unfolding mended
@@ -87,7 +90,7 @@ mended-around t P u Q e =
 -- ---- over the public call: what it filled, where it is done
 
 module _ {text out out′ : List ℕ} {r : Counted} (h : Reads mended text out (Done r) out′) where
-  pub done-filled : filled r out′ ≡ mended text
+  pub done-filled : filledFront r out′ ≡ mended text
   done-filled = fills-front (h .fills) (ap (λ (c : Counted). c .length) (fills-done (h .fills) .1))
 
   pub done-ills : r .ills ≡ illText text
@@ -99,17 +102,17 @@ module _ {text out out′ : List ℕ} {r : Counted} (h : Reads mended text out (
 -- ---- DEMAND 3 OVER THE PUBLIC CALL
 
 pub call-keeps : (b c z : List ℕ) {out out′ : List ℕ} {r : Counted} → Reads mended (b ++ c ++ z) out (Done r) out′
-    → StartsWith (filled r out′) (mended (beginning utf8 joinedBytes b)) × EndsWith (filled r out′) (mended (ending utf8 joinedBytes z))
+    → StartsWith (filledFront r out′) (mended (beginning utf8 joinedBytes b)) × EndsWith (filledFront r out′) (mended (ending utf8 joinedBytes z))
 unfolding mended
 call-keeps b c z h = let k = mended-keeps b c z in rw (done-filled h) (k .starts, k .ends)
 
 pub call-around : (t : List ℕ) (P : List (Piece ℕ)) (u : List ℕ) (Q : List (Piece ℕ)) → pieces kindOf t ≡ P ++ ill u ∷ Q → {out out′ : List ℕ}
     {r : Counted} → Reads mended t out (Done r) out′
-    → filled r out′ ≡ mended (unitsOf P) ++ ((0xEF ∷ 0xBF ∷ 0xBD ∷ []) ++ mended (unitsOf Q))
+    → filledFront r out′ ≡ mended (unitsOf P) ++ ((0xEF ∷ 0xBF ∷ 0xBD ∷ []) ++ mended (unitsOf Q))
 call-around t P u Q e h = done-filled h ∙ mended-around t P u Q e .1
 
 pub demand-3 : (b c d z : List ℕ) {o o′ p p′ : List ℕ} {r s : Counted} → Reads mended (b ++ c ++ z) o (Done r) o′
-    → Reads mended (b ++ d ++ z) p (Done s) p′ → SameAround b z (filled r o′) (filled s p′)
+    → Reads mended (b ++ d ++ z) p (Done s) p′ → SameAround b z (filledFront r o′) (filledFront s p′)
 demand-3 b c d z f g =
     let h = call-keeps b c z f in
     let k = call-keeps b d z g in

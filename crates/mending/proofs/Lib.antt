@@ -1,6 +1,5 @@
--- Crate mending, proofs/: the laws of the mended text: how damage stays local, the bound, the round trips, equal texts; then of its characters, of bytes
--- that pass, of letters and ill-formed subparts by their bytes, and of the loops, lowest first.
--- Not here: the definitions (specs/), and the proofs of the functions, which stand in folders of their own.
+-- The laws of crate mending. What a caller may cite is `pub mod`; functions' proofs have folders of
+-- their own.
 pub mod Damage
 pub mod Bound
 pub mod Round
@@ -8,5 +7,5 @@ pub mod Same
 pub mod Characters
 pub mod Passes
 pub mod Spelling
-pub mod Lone
+pub mod Alone
 pub mod Turns

@@ -1,12 +1,12 @@
 -- Bytes that pass: parts of a text that stand in the mended text as they stand in the text.
--- Not here: the first character of a text, whatever it is (proofs/Characters), one turn of the loops, and the copy of what passes (proofs/Turns).
 --
--- In order: nothing, and one part behind the other (`passes-none`, `passes-on`); a well-formed sequence that joins with nothing behind it
--- (`character-full`, `passes-full`); ASCII, one byte and eight (`low-character`, `low-passes`, `low-eight`); a letter of the block 1100–11FF begins
--- with E1 (`letter-first`), so before any other byte nothing joins (`apart-behind`) and a character of three bytes passes (`three-stands`,
--- `three-character`, `three-passes`), also as the last of a text (`three-last`); its first two bytes, tested in one number (`lead-number`,
--- `lead-three`); the high bits of eight bytes, tested so (`bit-none`, `word-low`).
--- Assumes nothing.
+-- In order: nothing, and one part after the other (`passes-none`, `passes-on`); a well-formed
+-- sequence that joins with nothing after it (`character-full`, `passes-full`); ASCII, one byte and
+-- eight (`low-character`, `low-passes`, `low-eight`); a letter of the block 1100–11FF begins with
+-- E1 (`letter-first`), so before any other byte nothing joins (`apart-behind`) and a character of
+-- three bytes passes (`three-stands`, `three-character`, `three-passes`), also as the last of a
+-- text (`three-last`); its first two bytes, tested in one number (`lead-number`, `lead-three`); the
+-- high bits of eight bytes, tested so (`bit-none`, `word-low`).
 use mathlib.Core.Path.{_≡_, refl, sym, _∙_, ap}
 use mathlib.Core.Bool.{true}
 use mathlib.Core.List.{List, [], _∷_, _++_, append-assoc}
@@ -34,12 +34,12 @@ use Rattle.utf8.proofs.Rows.{row-between}
 use Rattle.utf8.proofs.Forms.{ends, goes, full-by}
 use Rattle.utf8.proofs.Writing.{bytes-three}
 use Rattle.utf8.proofs.Reading.{reading8}
-use Rattle.utf8_round.proofs.Round.{full-piece, full-bytes}
+use Rattle.utf8.proofs.Round.{full-piece, full-bytes}
 use Rattle.mending.specs.Characters.{grown, characterFrom}
-use Rattle.mending.specs.Steps.{Passes, Three, Lead, Low, wordOf}
+use Rattle.mending.specs.Inner.{Passes, Three, Lead, Low, wordOf}
 use Rattle.mending.proofs.Characters.{apart-ill, stops, Character, character-next}
 
--- ---- nothing, and one part behind the other
+-- ---- nothing, and one part after the other
 
 pub passes-none : (text : List ℕ) (at : ℕ) → at ≤ length text → Passes text at at
 passes-none text at h =
@@ -108,7 +108,7 @@ low-eight text at h l =
     (low-on text (at + 6) (at + 7) (omega arith) (l .seventh)
     (low-on text (at + 7) (at + 8) (omega arith) (l .eighth) (passes-none text (at + 8) h))))))))
 
--- ---- THREE BYTES, and behind them any byte but E1
+-- ---- THREE BYTES, and after them any byte but E1
 
 -- the first byte of a code point from 1000 to 1FFF
 pub letter-first : (u t : List ℕ) → kindOf u ≡ full → 0x1000 ≤ valueOf u → valueOf u < 0x2000 → getD (u ++ t) 0 0 ≡ 0xE1
@@ -117,7 +117,8 @@ letter-first u t f l m =
     let e : u ≡ (0xE0 + c / 4096) ∷ (0x80 + c / 64 % 64) ∷ (0x80 + c % 64) ∷ [] = sym (full-bytes u f) ∙ bytes-three c (omega arith) (omega arith) in
     ap (λ (x : List ℕ). getD (x ++ t) 0 0) e ∙ omega arith
 
--- the letters that join with what stands before them are such: before any other byte a character takes in nothing
+-- the letters that join with what stands before them are such: before any other byte a character
+-- takes in nothing
 apart-reading : (c n : ℕ) {t : List ℕ} {P : List (Piece ℕ)} → Reading kindOf t P → (getD t 0 0 ≡ 0xE1 → ⊥) → grown (goodOf c n) P ≡ goodOf c n
 apart-reading c n nothing h = refl
 apart-reading c n (formed u {t} f r) h =
@@ -188,7 +189,7 @@ lead-number {a} {b} byte l m w = record {
   second-ed = λ e. omega (arith, e);
 }
 
--- and a third behind them
+-- and a third after them
 pub lead-three : {a b c d : ℕ} → Lead a b → within 0x80 0xBF c ≡ true → (d ≡ 0xE1 → ⊥) → Three a b c d
 lead-three {c = c} l w n = record {
   least = l .least;

@@ -1,10 +1,10 @@
--- The round trips of mending: a text with nothing to mend comes back as it is, and a mended text is mended already; with what a mended text
--- reads as. Over lists, and over the public call's contract: its answer and its buffer, where the bytes are taken and there is room.
--- Not here: how far damage reaches (proofs/Damage), when two texts are mended to the same (proofs/Same), UTF-8's own round trips (crate utf8).
+-- The round trips of mending: a text with nothing to mend comes back as it is, and a mended text is
+-- mended already; with what a mended text reads as. Over lists, and over the public call's
+-- contract: its answer and its buffer, where the bytes are taken and there is room.
 --
--- In order: what a mended text reads as (`mended-good`, `mended-read`, `mended-joined`) and that nothing of it is ill-formed (`mended-ills`); the round
--- trips (`joined-back`, `mended-again`); over the call (`call-done`, `call-back`, `call-again`).
--- Assumes nothing.
+-- In order: what a mended text reads as (`mended-good`, `mended-read`, `mended-joined`) and that
+-- nothing of it is ill-formed (`mended-ills`); the round trips (`joined-back`, `mended-again`);
+-- over the call (`call-done`, `call-back`, `call-again`).
 use mathlib.Core.Path.{_≡_, refl, _∙_, ap}
 use mathlib.Core.Bool.{false}
 use mathlib.Core.List.{List}
@@ -18,10 +18,10 @@ use Rattle.joining.specs.Joining.{join}
 use Rattle.joining.proofs.Joins.{join-join, join-good}
 use Rattle.utf8.specs.Utf8.{readText, illText, writeText}
 use Rattle.utf8.specs.Reading.{countedOf, Reads}
-use Rattle.utf8.specs.declared.read.Read.{Read}
-use Rattle.utf8.specs.declared.read.Read.the-variants.{Done}
+use Rattle.utf8.specs.declared.text.Read.{Read}
+use Rattle.utf8.specs.declared.text.Read.the-variants.{Done}
 use Rattle.utf8.proofs.Reading.{read-good, reads-unique}
-use Rattle.utf8_round.proofs.Round.{read-write, ill-write, write-read}
+use Rattle.utf8.proofs.Round.{read-write, ill-write, write-read}
 use Rattle.mending.specs.Mending.{mended}
 
 -- ---- a mended text read
@@ -30,7 +30,8 @@ use Rattle.mending.specs.Mending.{mended}
 pub mended-good : (t : List ℕ) → All (λ c. bad c ≡ false) (join (readText t))
 mended-good t = join-good (readText t) (read-good t)
 
--- WHAT A MENDED TEXT READS AS is what the text's code points join to, which is joined already; and nothing of it is ill-formed
+-- WHAT A MENDED TEXT READS AS is what the text's code points join to, which is joined already; and
+-- nothing of it is ill-formed
 pub mended-read : (t : List ℕ) → readText (mended t) ≡ join (readText t)
 unfolding mended
 mended-read t = read-write (mended-good t)
@@ -55,7 +56,8 @@ mended-again t = joined-back (mended t) (mended-ills t) (mended-joined t)
 
 -- ---- THE ROUND TRIPS OVER THE PUBLIC CALL
 
--- the bytes are taken and there is room: the call is done, and the mended text fills the front of the buffer
+-- the bytes are taken and there is room: the call is done, and the mended text fills the front of
+-- the buffer
 pub call-done : (t out : List ℕ) → takesBytes t ≡ passes → length (mended t) ≤ length out → {r : Read} {out′ : List ℕ} → Reads mended t out r out′
     → (r ≡ Done (countedOf mended t)) × (out′ ≡ front (mended t) out)
 call-done t out taken room h = reads-unique mended t out h (record { fills = filled-whole taken room refl })

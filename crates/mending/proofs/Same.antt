@@ -1,9 +1,8 @@
--- When two texts are mended to the same: two texts are mended to the same bytes exactly where what they read as has the same full parts. Over lists,
--- and over the public call's contract. Not here: that full parts are the Standard's canonical decomposition (crate normal), and which two code points
--- join (crate joining).
+-- When two texts are mended to the same: two texts are mended to the same bytes exactly where what
+-- they read as has the same full parts. Over lists, and over the public call's contract.
 --
--- In order: two texts of scalar values with the same bytes are one (`write-injective`); the law (`same-mended`); over the call (`same-call`).
--- Assumes nothing.
+-- In order: two texts of scalar values with the same bytes are one (`write-injective`); the law
+-- (`same-mended`); over the call (`same-call`).
 use mathlib.Core.Path.{_≡_, sym, _∙_, ap}
 use mathlib.Core.Bool.{false}
 use mathlib.Core.Logic.{_↔_}
@@ -15,10 +14,10 @@ use Rattle.letters.specs.Syllables.{fullParts}
 use Rattle.joining.proofs.Joins.{same-join, same-parts}
 use Rattle.utf8.specs.Utf8.{readText, writeText}
 use Rattle.utf8.specs.Reading.{Reads}
-use Rattle.utf8.specs.declared.read.Counted.{Counted}
-use Rattle.utf8.specs.declared.read.Read.the-variants.{Done}
-use Rattle.utf8_round.proofs.Round.{read-write}
-use Rattle.mending.specs.Mending.{mended, filled}
+use Rattle.utf8.specs.declared.text.Counted.{Counted}
+use Rattle.utf8.specs.declared.text.Read.the-variants.{Done}
+use Rattle.utf8.proofs.Round.{read-write}
+use Rattle.mending.specs.Mending.{mended, filledFront}
 use Rattle.mending.proofs.Damage.{done-filled}
 use Rattle.mending.proofs.Round.{mended-good}
 
@@ -35,5 +34,5 @@ same-mended s t = (
 
 -- over the public call: two calls that are done fill the same exactly there, whatever their buffers
 pub same-call : (s t : List ℕ) {o p o′ p′ : List ℕ} {r r′ : Counted} → Reads mended s o (Done r) o′ → Reads mended t p (Done r′) p′
-    → (filled r o′ ≡ filled r′ p′) ↔ (fullParts (readText s) ≡ fullParts (readText t))
+    → (filledFront r o′ ≡ filledFront r′ p′) ↔ (fullParts (readText s) ≡ fullParts (readText t))
 same-call s t h k = rw (done-filled h, done-filled k) (same-mended s t)

@@ -1,8 +1,9 @@
--- A syllable that stands as single letters, by its bytes. In order: the bytes of a letter of the block 1100–11FF at an index, and back (`Letter`,
--- `letter-bytes`, `bytes-letter`); a letter by its tail (`tail-short`, `tail-other`, `tail-three`); F of a final (`final-low`,
--- `final-high`, `final-none`); a character that takes in what is read behind it (`first-grown`, `grown-takes`, `grown-stays`); and a syllable of two
--- letters and of three (`spelled-none`, `initial-inside`, `spelled-two`, `spelled-three`).
--- Not here: which letters join (crate joining, proofs/Pairs). Assumes nothing.
+-- A syllable that stands as single letters, by its bytes. In order: the bytes of a letter of the
+-- block 1100–11FF at an index, and back (`Letter`, `letter-bytes`, `bytes-letter`); a letter by its
+-- tail (`tail-short`, `tail-other`, `tail-three`); F of a final (`final-low`, `final-high`,
+-- `final-none`); a character that takes in what is read after it (`first-grown`, `grown-takes`,
+-- `grown-stays`); and a syllable of two letters and of three (`spelled-none`, `initial-inside`,
+-- `spelled-two`, `spelled-three`).
 use mathlib.Core.Path.{_≡_, refl, sym, _∙_, ap}
 use mathlib.Core.Bool.{Bool, true, false, cond}
 use mathlib.Core.List.{List, [], _∷_, _++_}
@@ -26,13 +27,13 @@ use Rattle.joining.proofs.Pairs.{two-letters, three-letters, pair-other, no-fou
 use Rattle.utf8.specs.Table37.{kindOf}
 use Rattle.utf8.specs.Utf8.{utf8, bytesOf, valueOf}
 use Rattle.utf8.specs.Reading.{goodOf, takenFrom}
-use Rattle.utf8.specs.declared.read.Taken.{Taken}
+use Rattle.utf8.specs.declared.decode.Taken.{Taken}
 use Rattle.utf8.proofs.Takes.{behind}
 use Rattle.utf8.proofs.Writing.{bytes-three, long-three}
 use Rattle.utf8.proofs.Reading.{reading8}
-use Rattle.utf8_round.proofs.Round.{full-bytes, bytes-piece, bytes-value}
-use Rattle.mending.specs.Characters.{meets, taking, grown, behindFirst, characterFrom}
-use Rattle.mending.specs.Steps.{tailOf, Tail, lastOf}
+use Rattle.utf8.proofs.Round.{full-bytes, bytes-piece, bytes-value}
+use Rattle.mending.specs.Characters.{meetsPiece, taking, grown, behindFirst, characterFrom}
+use Rattle.mending.specs.Inner.{tailOf, Tail, lastOf}
 use Rattle.mending.proofs.Characters.{apart-end, taken-code, taken-size, stops, behind-first}
 use Rattle.mending.proofs.Passes.{three-stands}
 
@@ -159,7 +160,7 @@ module _ (text : List ℕ) (at : ℕ) {r : ℕ} (tail : Tail text at r) where
       absurd (high (omega (arith, e, tail-high c h m)) (omega (arith, e, tail-high c h m)))))
       (λ e. sym e)
 
--- ---- a character that takes in what is read behind it
+-- ---- a character that takes in what is read after it
 
 pub first-grown : (text : List ℕ) (at : ℕ) {t : Taken} → t ≡ takenFrom (pieces kindOf (drop at text))
     → characterFrom (pieces kindOf (drop at text)) ≡ grown t (pieces kindOf (drop (at + t .size) text))
@@ -178,7 +179,7 @@ module _ (t : Taken) (text : List ℕ) (n : ℕ) {next : Taken} (read : next ≡
   takes-on (w ∷ P) e q h =
       let k : next .code ≡ codeOf utf8 w = ap (λ (x : Taken). x .code) q ∙ taken-code w P in
       let s : next .size ≡ length (units w) = ap (λ (x : Taken). x .size) q ∙ taken-size w P in
-      rw (s, behind text n w P e, k) (rw (ne-eqb (meets t w) 0 (λ (z : meets t w ≡ 0). h (ap (pair (t .code)) k ∙ z))))
+      rw (s, behind text n w P e, k) (rw (ne-eqb (meetsPiece t w) 0 (λ (z : meetsPiece t w ≡ 0). h (ap (pair (t .code)) k ∙ z))))
 
   pub grown-takes : (pair (t .code) (next .code) ≡ 0 → ⊥)
       → grown t (pieces kindOf (drop n text))
@@ -188,12 +189,12 @@ module _ (t : Taken) (text : List ℕ) (n : ℕ) {next : Taken} (read : next ≡
   stays-on : (P : List (Piece ℕ)) → next ≡ takenFrom P → pair (t .code) (next .code) ≡ 0 → grown t P ≡ t
   stays-on [] q h = refl
   stays-on (w ∷ P) q h =
-      rw (eq-eqb (meets t w) 0 (ap (pair (t .code)) (sym (ap (λ (x : Taken). x .code) q ∙ taken-code w P)) ∙ h))
+      rw (eq-eqb (meetsPiece t w) 0 (ap (pair (t .code)) (sym (ap (λ (x : Taken). x .code) q ∙ taken-code w P)) ∙ h))
 
   pub grown-stays : pair (t .code) (next .code) ≡ 0 → grown t (pieces kindOf (drop n text)) ≡ t
   grown-stays h = stays-on (pieces kindOf (drop n text)) read h
 
--- ---- a syllable in letters: a is the tail of an initial at an index, and b that of a peak behind it
+-- ---- a syllable in letters: a is the tail of an initial at an index, and b that of a peak after it
 
 pub spelled-none : {r : Taken} {G : Type 0} → r ≡ goodOf 0 0 → (r .size ≡ 0 → ⊥) → G
 spelled-none e h = absurd (h (ap (λ (x : Taken). x .size) e))
@@ -218,7 +219,7 @@ module _ (text : List ℕ) (at : ℕ) {a : ℕ} (first : Tail text at a) (a-leas
     pair-is : pair (0x1100 + (a - 0x8480)) (0x1161 + (b - 0x85A1)) ≡ 0xAC00 + (a - 0x8480) * 588 + (b - 0x85A1) * 28
     pair-is = two-letters (a - 0x8480) (b - 0x85A1) (omega arith) (omega arith)
 
-    -- the two joined, and what stands behind them
+    -- the two joined, and what stands after them
     pair-grown : characterFrom (pieces kindOf (drop at text))
         ≡ grown (goodOf (0xAC00 + (a - 0x8480) * 588 + (b - 0x85A1) * 28) 6) (pieces kindOf (drop (at + 6) text))
     pair-grown =
@@ -226,7 +227,7 @@ module _ (text : List ℕ) (at : ℕ) {a : ℕ} (first : Tail text at a) (a-leas
         let n : pair (0x1100 + (a - 0x8480)) (0x1161 + (b - 0x85A1)) ≡ 0 → ⊥ = λ z. omega (arith, pair-is) in
         first-grown text at initial-taken ∙ grown-takes (goodOf (0x1100 + (a - 0x8480)) 3) text (at + 3) peak-taken n ∙ rw (six, pair-is)
 
-    -- f is F of what stands behind them
+    -- f is F of what stands after them
     module _ {f : ℕ} (found : f ≡ lastOf (takenFrom (pieces kindOf (drop (at + 6) text)) .code)) where
       -- it is no final
       last-apart : (c : ℕ) → lastOf c ≡ 0 → pair (0xAC00 + (a - 0x8480) * 588 + (b - 0x85A1) * 28) c ≡ 0

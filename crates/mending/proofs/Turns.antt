@@ -1,9 +1,9 @@
--- One turn of the loops over a text, and the loops. In order: the bytes between two indices, copied one by one (`Copying` and its laws); a part that
--- passes by its length (`passes-length`); a turn that writes: a character has room and was written (`wrote-placed`, `fits-placed`, `character-fits`,
--- `character-moved`), so with bytes that pass (`passes-room`, `passes-moved`); a turn that counts (`count-fits`, `count-character`, `passes-count`,
--- `count-passes`); and what the two loops keep (`Writing`, `Tallying`, with their laws) up to the end (`mended-end`).
--- Not here: what a character is (proofs/Characters), which bytes pass (proofs/Passes), how long a mended text is at most (proofs/Bound).
--- Assumes nothing.
+-- One turn of the loops over a text, and the loops. In order: the bytes between two indices, copied
+-- one by one (`Copying` and its laws); a part that passes by its length (`passes-length`); a turn
+-- that writes: a character has room and was written (`wrote-placed`, `fits-placed`,
+-- `character-fits`, `character-moved`), so with bytes that pass (`passes-room`, `passes-moved`); a
+-- turn that counts (`count-fits`, `count-character`, `passes-count`, `count-passes`); and what the
+-- two loops keep (`Writing`, `Tallying`, with their laws) up to the end (`mended-end`).
 use mathlib.Core.Path.{_≡_, refl, sym, _∙_, ap}
 use mathlib.Core.List.{List, [], _∷_, _++_, append-assoc}
 use Prim.Native.Nat.{ℕ, _+_, _-_, _*_, _≤_, _<_}
@@ -13,18 +13,17 @@ use lib.Seq.{drop-cons}
 use lib.ListN.{length, getD, drop, set, length-append, length-drop, drop-of-length-le}
 use Rattle.laws.specs.Writing.{Room, Wrote, Fronts}
 use Rattle.laws.proofs.Lists.{cut-front, each-nil}
-use Rattle.laws.proofs.Filling.{Filling, Counting, wrote-one, wrote-none, wrote-two, wrote-length, counting-none, counting-more, counting-all}
-use Rattle.laws.proofs.Filling.{filling-none, filling-count, filling-length, filling-more, filling-all}
+use Rattle.laws.proofs.Filling.{Filling, Counting, wrote-one, wrote-none, wrote-two, wrote-length, counting-none, counting-more, counting-all, filling-none, filling-count, filling-length, filling-more, filling-all}
 use Rattle.answers.proofs.Checks.{good-most}
 use Rattle.utf8.specs.Utf8.{bytesOf, illText, fitting}
 use Rattle.utf8.specs.Reading.{ReadFronts}
-use Rattle.utf8.specs.declared.read.Taken.{Taken}
+use Rattle.utf8.specs.declared.decode.Taken.{Taken}
 use Rattle.utf8.proofs.Writing.{fitting-all}
 use Rattle.utf8.proofs.Reading.{read-most, ills-most}
 use Rattle.mending.specs.Mending.{mended}
-use Rattle.mending.specs.Steps.{Goes, Passes, Copies, Ready, Moved, Fits, Placed, CountReady, CountMoved, CountFits, CountPlaced}
-use Rattle.mending.specs.declared.progress.At.{At}
-use Rattle.mending.specs.declared.progress.Count.{Count}
+use Rattle.mending.specs.Inner.{Goes, Passes, Copies, Ready, Moved, Fits, Placed, CountReady, CountMoved, CountFits, CountPlaced}
+use Rattle.mending.specs.declared.text.At.{At}
+use Rattle.mending.specs.declared.length.Count.{Count}
 use Rattle.mending.proofs.Characters.{Character}
 
 -- ---- copying

@@ -1,5 +1,5 @@
--- Crate mending, specs/: the mended text, its first character, and what the loops over a text ask, lowest first.
--- Not here: any law or proof (proofs/).
+-- The definitions of crate mending, lowest first: the mended text, its first character, and what
+-- the private functions promise.
 pub mod Mending
 pub mod Characters
-pub mod Steps
+pub mod Inner

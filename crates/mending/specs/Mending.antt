@@ -1,7 +1,8 @@
--- Mending: document 01, 'Bytes': a text of bytes is read, each ill-formed subpart as one FFFD, joined, and written as UTF-8. And what demand 3 says of
--- two texts with the same beginning and the same ending, as a statement over what two calls leave in their buffers (`SameAround`).
--- Not here: reading and writing (crate utf8), joining (crate joining), the places in a text that demand 3 names (crate laws, specs/Damage, at `utf8` and
--- `joinedBytes`). Assumes nothing.
+-- Mending: document 01, 'Bytes'. A text of bytes is read, each ill-formed subpart as one FFFD,
+-- joined, and written as UTF-8. And what demand 3 says of two texts with the same beginning and the
+-- same ending, as a statement over what two calls leave in their buffers (`SameAround`). The places
+-- that demand 3 names stand in crate laws, specs/Damage; here they are taken at `utf8` and
+-- `joinedBytes`.
 use mathlib.Core.Path.{_≡_}
 use mathlib.Core.Bool.{Bool, true, false}
 use mathlib.Core.List.{List}
@@ -13,7 +14,7 @@ use Rattle.joining.specs.declared.role.Role.{Role}
 use Rattle.joining.specs.declared.role.Role.the-variants.{Initial, Peak, Final, Lv, None}
 use Rattle.joining.specs.Joining.{join}
 use Rattle.utf8.specs.Utf8.{utf8, readText, writeText}
-use Rattle.utf8.specs.declared.read.Counted.{Counted}
+use Rattle.utf8.specs.declared.text.Counted.{Counted}
 
 -- THE MENDED TEXT
 unfoldable pub mended : List ℕ → List ℕ
@@ -37,11 +38,12 @@ joinedBytes = record { make = λ x. writeText (join x); soft = soft }
 -- ---- demand 3, over what two calls leave
 
 -- what a call that is done filled: the front of the buffer, as long as it answered
-abbrev pub filled : Counted → List ℕ → List ℕ
-filled r out′ = take (r .length) out′
+abbrev pub filledFront : Counted → List ℕ → List ℕ
+filledFront r out′ = take (r .length) out′
 
--- two texts with the same beginning b and the same ending z, mended: what the two calls filled, f and g, has one start and one finish in common, and
--- these are what b up to its place and z from its place are mended to
+-- two texts with the same beginning b and the same ending z, mended: what the two calls filled, f
+-- and g, has one start and one finish in common, and these are what b up to its place and z from
+-- its place are mended to
 pub record SameAround (b z f g : List ℕ) : Type 0 where
   pub start : List ℕ
   pub finish : List ℕ

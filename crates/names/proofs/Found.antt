@@ -1,9 +1,11 @@
--- Which syllable has a name, and the round trips of the two public calls. In order: the first of n syllables that has the name (`from-is`,
--- `from-none`); `named` finds the syllable that has the name, and nothing where none has it (`named-some`, `named-is`, `named-none`, `none-named`);
--- an answer is known by its reading, so each contract admits one result (`namedAs-injective`, `reads-name-unique`, `names-unique`); which answer
--- reading gives (`reads-checked`, `reads-found`, `reads-nothing`), and that 5 IS REFUSED EXACTLY WHERE NO SYLLABLE HAS THE NAME (`read-refuses`,
--- `read-refused`); THE NAME OF A SYLLABLE IS READ AS THE SYLLABLE (`read-named`), AND A NAME THAT IS READ IS THE SYLLABLE'S (`name-read`).
--- Not here: the search that finds it (proofs/Search). Assumes nothing.
+-- Which syllable has a name, and the round trips of the two calls. In order: the first of n
+-- syllables that has the name (`from-is`, `from-none`); `named` finds the syllable that has the
+-- name, and nothing if none has it (`named-some`, `named-is`, `named-none`, `none-named`); an
+-- answer is known by its reading, so each contract admits one result (`namedAs-injective`,
+-- `reads-name-unique`, `names-unique`); which answer reading gives (`reads-checked`, `reads-found`,
+-- `reads-nothing`), and 5 IS REFUSED EXACTLY IF NO SYLLABLE HAS THE NAME (`read-refuses`,
+-- `read-refused`); THE NAME OF A SYLLABLE IS READ AS THE SYLLABLE (`read-named`), AND A NAME THAT
+-- IS READ IS THE SYLLABLE'S (`name-read`).
 use mathlib.Core.Path.{_≡_, refl, sym, _∙_, ap}
 use mathlib.Core.Bool.{Bool, true, false, cond}
 use mathlib.Core.Option.{Option, none, some}
@@ -20,25 +22,25 @@ use Rattle.laws.proofs.Strings.{same-true, same-false}
 use Rattle.answers.specs.Checks.{Check, passes, refuses, inOrder, takesBytes}
 use Rattle.answers.specs.Verdicts.{done, verdict}
 use Rattle.answers.specs.Answers.{checked}
-use Rattle.answers.specs.declared.Refusal.{Refusal}
-use Rattle.answers.specs.declared.Refusal.the-variants.{NoName}
-use Rattle.answers.specs.declared.Checked.{Checked}
-use Rattle.answers.specs.declared.Checked.the-variants.{Refused as CheckRefused}
-use Rattle.answers.specs.declared.Filled.{Filled}
-use Rattle.answers.specs.declared.Filled.the-variants.{Done}
+use Rattle.answers.specs.declared.refusal.Refusal.{Refusal}
+use Rattle.answers.specs.declared.refusal.Refusal.the-variants.{NoName}
+use Rattle.answers.specs.declared.answer.Checked.{Checked}
+use Rattle.answers.specs.declared.answer.Checked.the-variants.{Refused as CheckRefused}
+use Rattle.answers.specs.declared.answer.Filled.{Filled}
+use Rattle.answers.specs.declared.answer.Filled.the-variants.{Done}
 use Rattle.answers.proofs.Answers.{filled-injective, refusedBy-injective}
 use Rattle.answers.proofs.Orders.{passes-refuses}
 use Rattle.answers.proofs.Checks.{bytes-taken}
 use Rattle.answers.proofs.Verdicts.{done-not-refused, fills-done, fills-front, fills-unique, filled-whole}
 use Rattle.letters.specs.Syllables.{isSyllable, initialOf, peakOf, finalOf}
-use Rattle.letters.proofs.Steps.{syllable, syllable-yes, syllable-least, syllable-most, syllable-made, initial-below, peak-below, final-below}
-use Rattle.letters.proofs.Steps.{initial-determined, peak-determined, final-determined}
+use Rattle.letters.proofs.Steps.{syllable, syllable-yes, syllable-least, syllable-most, syllable-made, initial-below, peak-below, final-below, initial-determined, peak-determined, final-determined}
 use Rattle.names.specs.Names.{nameBy, nameOf, namedFrom, named}
-use Rattle.names.specs.Naming.{noSyllable, Names, noName, syllableOr, namedAs, ReadsName, FoundIs}
-use Rattle.names.specs.declared.named.Found.{Found}
-use Rattle.names.specs.declared.named.Found.the-variants.{At, Nothing}
-use Rattle.names.specs.declared.named.Named.{Named}
-use Rattle.names.specs.declared.named.Named.the-variants.{Syllable, Refused}
+use Rattle.names.specs.Naming.{noSyllable, Names, noName, syllableOr, namedAs, ReadsName}
+use Rattle.names.specs.Inner.{FoundIs}
+use Rattle.names.specs.declared.read.Found.{Found}
+use Rattle.names.specs.declared.read.Found.the-variants.{At, Nothing}
+use Rattle.names.specs.declared.read.Named.{Named}
+use Rattle.names.specs.declared.read.Named.the-variants.{Syllable, Refused}
 use Rattle.names.proofs.Unique.{names-differ}
 use Rattle.names.proofs.Lengths.{syllable-name-most}
 use Rattle.names.proofs.Writing.{no-syllable-refuses, no-syllable-passes}
@@ -189,7 +191,7 @@ reads-syllable {name} f = done-says (takesBytes name) (named name) (f .answers)
 pub passes-syllable : (s : ℕ) → noSyllable s ≡ passes → isSyllable s ≡ true
 passes-syllable s e = test (isSyllable s) (λ h. h) (λ h. absurd (passes-refuses (sym e ∙ no-syllable-refuses s h)))
 
--- a syllable is named where there is room
+-- a syllable is named if there is room
 pub names-whole : (s : ℕ) {out : List ℕ} → isSyllable s ≡ true → length (nameOf s) ≤ length out
     → Names s out (Done (length (nameOf s))) (front (nameOf s) out)
 names-whole s h room = record { fills = filled-whole (no-syllable-passes s h) room refl }

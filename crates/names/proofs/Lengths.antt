@@ -1,7 +1,7 @@
--- How long a name is. In order: a list of strings by one computed test; an initial's and a final's string has at most 2 bytes, a peak's 1 to 3;
--- so a name has 17 to 23 bytes, by I, P and F (`name-least`, `name-most`) and of a syllable (`syllable-name-least`, `syllable-name-most`). That it has at
--- most so many asks nothing of the indices, since behind a list's last row the string is empty.
--- Not here: the length as a sum (`name-size` of proofs/Writing). Assumes nothing.
+-- How long a name is. In order: a list of strings by one computed test; an initial's and a final's
+-- string has at most 2 bytes, a peak's 1 to 3; so a name has 17 to 23 bytes, by I, P and F
+-- (`name-least`, `name-most`) and of a syllable (`syllable-name-least`, `syllable-name-most`). The
+-- upper bound asks nothing of the indices, since the string is empty after a list's last row.
 use mathlib.Core.Path.{_≡_, ap}
 use mathlib.Core.Bool.{Bool, true}
 use mathlib.Core.List.{List, []}
@@ -29,7 +29,7 @@ module _ (n : ℕ) (strings : List (List ℕ)) (row : ℕ) where
   long : T (every (atLeast n) 0 strings) → row < length strings → n ≤ length (getD strings row [])
   long t h = leb→le _ _ (every-at (atLeast n) [] strings t row h)
 
-  -- behind the last row the string is empty
+  -- after the last row the string is empty
   short : T (every (atMost n) 0 strings) → length (getD strings row []) ≤ n
   short t =
       test (ltb row (length strings)) (λ h. leb→le _ _ (every-at (atMost n) [] strings t row (ltb-true _ _ h)))

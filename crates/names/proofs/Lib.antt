@@ -1,5 +1,5 @@
--- Crate names, proofs/: the tables' rows, naming, how long a name is; that names are different and rule NR1's; the search, and which syllable has a name;
--- lowest first. Not here: the definitions (specs/), and any function.
+-- The laws of crate names. What a caller may cite is `pub mod`; functions' proofs have folders of
+-- their own.
 pub mod Rows
 pub mod Writing
 pub mod Lengths

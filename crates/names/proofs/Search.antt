@@ -1,10 +1,11 @@
--- What the search of a name compares, and what it has passed over. In order: a string by value, and that it is as long as the table's
--- (`spells-size`); how what is left of a name goes on with it, letter by letter; a vowel letter at an index, and whether a string fits (`fits-not`,
--- `fits-as`); how a name begins with the prefix, letter by letter (`PrefixTo`); EVERY PEAK BEGINS WITH A VOWEL LETTER AND NO FINAL DOES (`peak-first`,
--- `final-first`), so that no name is lost where the letter behind a string does not fit; a name's three strings at their indices, not there (`prefix-miss`
--- to `final-miss`) and there (`name-there`); what a search of a table's rows keeps (`Tried`), and what the three searches do (`Initials`, `Peaks`,
--- `Finals`). Each law concludes what the code's next turn, or its return, asks.
--- Not here: which syllable has a name (proofs/Found). Assumes nothing.
+-- What the search of a name compares, and what it has passed over. In order: a string by value; how
+-- what is left of a name goes on with it, letter by letter; a vowel letter at an index, and whether
+-- a string fits (`fits-not`, `fits-as`); how a name begins with the prefix, letter by letter
+-- (`PrefixTo`); EVERY PEAK BEGINS WITH A VOWEL LETTER AND NO FINAL DOES (`peak-first`,
+-- `final-first`), so no name is lost where the letter after a string does not fit; a name's three
+-- strings at their indices, not there (`prefix-miss` to `final-miss`) and there (`name-there`);
+-- what a search of a table's rows keeps (`Tried`), and what the three searches keep (`Initials`,
+-- `Peaks`, `Finals`). Each law concludes what the code's next turn, or its return, asks.
 use mathlib.Core.Path.{_≡_, refl, sym, _∙_, ap}
 use mathlib.Core.Bool.{Bool, true, false, cond, Bool·beq, true≢false}
 use mathlib.Core.List.{List, [], _∷_, _++_}
@@ -20,10 +21,9 @@ use Rattle.laws.specs.Lists.{All, also}
 use Rattle.laws.specs.Strings.{same, begins, picked}
 use Rattle.laws.proofs.Bools.{test, and-left}
 use Rattle.laws.proofs.Lists.{all-at}
-use Rattle.laws.proofs.Strings.{same-true, same-false, same-begins, same-other-length, begins-append, begins-behind, begins-false, begins-least, begins-short}
-use Rattle.laws.proofs.Strings.{begins-here, begins-not-here, begins-on, begins-not-on}
-use Rattle.names.specs.Names.{initials, peaks, finals, prefix, nameBy, vowel}
-use Rattle.names.specs.Naming.{stringOf, Spells, vowelFirst, fitting}
+use Rattle.laws.proofs.Strings.{same-true, same-false, same-begins, same-other-length, begins-append, begins-behind, begins-false, begins-least, begins-short, begins-here, begins-not-here, begins-on, begins-not-on}
+use Rattle.names.specs.Names.{initials, peaks, finals, prefix, nameBy}
+use Rattle.names.specs.Inner.{stringOf, Spells, vowel, vowelFirst, followed}
 use Rattle.names.specs.declared.strings.Part.{Part}
 use Rattle.names.proofs.Rows.{string-size, spells-size}
 use Rattle.names.proofs.Unique.{name-splits}
@@ -97,7 +97,7 @@ module _ (part : Part) (few : part .length ≤ 3) (rest : List ℕ) where
   pub ends-as : length rest ≡ part .length → {told : Bool} → told ≡ begins (stringOf part) rest → told ≡ same (stringOf part) rest
   ends-as h e = e ∙ sym (same-begins (stringOf part) rest (string-size part few ∙ sym h))
 
--- ---- a vowel letter, at an index, and behind a string
+-- ---- a vowel letter, at an index, and after a string
 
 -- the seven letters, as the code has them
 abbrev Vowel : ℕ → Type 0
@@ -132,11 +132,11 @@ module _ (name : List ℕ) (at : ℕ) where
   vowel-here h e = rw (drop-cons name at 0 h) e
 
 module _ (part : Part) (wanted : Bool) (rest : List ℕ) {goes : Bool} (told : goes ≡ begins (stringOf part) rest) where
-  pub fits-not : goes ≡ false → false ≡ fitting (stringOf part) wanted rest
+  pub fits-not : goes ≡ false → false ≡ followed (stringOf part) wanted rest
   fits-not h = rw (sym told ∙ h)
 
   pub fits-as : part .length ≤ 3 → goes ≡ true → {vowel-told : Bool} → vowel-told ≡ vowelFirst (drop (part .length) rest)
-      → Bool·beq vowel-told wanted ≡ fitting (stringOf part) wanted rest
+      → Bool·beq vowel-told wanted ≡ followed (stringOf part) wanted rest
   fits-as few h e = rw (sym told ∙ h, string-size part few, e)
 
 -- ---- how a name begins with the prefix, letter by letter
@@ -168,21 +168,22 @@ module _ {name : List ℕ} {at : ℕ} (to : PrefixTo name at) where
   unfolding prefix
   prefix-all h = rw (drop-of-length-le prefix h) at (to .so-far)
 
--- ---- a string that fits: the text goes on with it, and behind it with a vowel letter or with none, as is wanted
+-- ---- a string that fits: the text goes on with it, and after it with a vowel letter or with none,
+-- as is wanted
 
 beq-refl : (b : Bool) → Bool·beq b b ≡ true
 beq-refl true = refl
 beq-refl false = refl
 
 module _ (x : List ℕ) (wanted : Bool) where
-  fitting-append : (z : List ℕ) → vowelFirst z ≡ wanted → fitting x wanted (x ++ z) ≡ true
-  fitting-append z e = rw (begins-append x z, drop-append-seam x z, e) (beq-refl wanted)
+  followed-append : (z : List ℕ) → vowelFirst z ≡ wanted → followed x wanted (x ++ z) ≡ true
+  followed-append z e = rw (begins-append x z, drop-append-seam x z, e) (beq-refl wanted)
 
-  fitting-false : (y : List ℕ) → fitting x wanted y ≡ false → (z : List ℕ) → y ≡ x ++ z → vowelFirst z ≡ wanted → ⊥
-  fitting-false y h z q e = true≢false (sym (fitting-append z e) ∙ ap (fitting x wanted) (sym q) ∙ h)
+  followed-false : (y : List ℕ) → followed x wanted y ≡ false → (z : List ℕ) → y ≡ x ++ z → vowelFirst z ≡ wanted → ⊥
+  followed-false y h z q e = true≢false (sym (followed-append z e) ∙ ap (followed x wanted) (sym q) ∙ h)
 
-  fitting-begins : (y : List ℕ) → fitting x wanted y ≡ true → begins x y ≡ true
-  fitting-begins y h = and-left (begins x y) (Bool·beq (vowelFirst (drop (length x) y)) wanted) h
+  followed-begins : (y : List ℕ) → followed x wanted y ≡ true → begins x y ≡ true
+  followed-begins y h = and-left (begins x y) (Bool·beq (vowelFirst (drop (length x) y)) wanted) h
 
 full-first : (x z : List ℕ) → All (λ c. vowel c ≡ true) x → (x ≡ [] → ⊥) → vowelFirst (x ++ z) ≡ true
 full-first [] z all some = absurd (some refl)
@@ -203,7 +204,7 @@ final-first f h = free-first (getD finals f []) (all-at [] (name-splits .third-f
 
 -- ---- a name's three strings at their indices
 
--- the index behind the initial's string, and behind the peak's
+-- the index after the initial's string, and after the peak's
 abbrev behindInitial : ℕ → ℕ
 behindInitial i = 16 + length (getD initials i [])
 
@@ -240,12 +241,12 @@ module _ (name : List ℕ) (i p f : ℕ) where
   unfolding nameBy
   prefix-miss h e = begins-false prefix name h (picked initials peaks finals i p f) e
 
-  initial-miss : fitting (getD initials i []) true (drop 16 name) ≡ false → p < 21 → Miss name i p f
+  initial-miss : followed (getD initials i []) true (drop 16 name) ≡ false → p < 21 → Miss name i p f
   initial-miss h k e =
-      fitting-false (getD initials i []) true (drop 16 name) h (getD peaks p [] ++ getD finals f []) (from-initial e) (peak-first p k (getD finals f []))
+      followed-false (getD initials i []) true (drop 16 name) h (getD peaks p [] ++ getD finals f []) (from-initial e) (peak-first p k (getD finals f []))
 
-  peak-miss : fitting (getD peaks p []) false (drop (behindInitial i) name) ≡ false → f < 28 → Miss name i p f
-  peak-miss h k e = fitting-false (getD peaks p []) false (drop (behindInitial i) name) h (getD finals f []) (from-peak e) (final-first f k)
+  peak-miss : followed (getD peaks p []) false (drop (behindInitial i) name) ≡ false → f < 28 → Miss name i p f
+  peak-miss h k e = followed-false (getD peaks p []) false (drop (behindInitial i) name) h (getD finals f []) (from-peak e) (final-first f k)
 
   final-miss : same (getD finals f []) (drop (behindPeak i p) name) ≡ false → Miss name i p f
   final-miss h e = same-false (getD finals f []) (drop (behindPeak i p) name) h (sym (from-final e))
@@ -269,7 +270,8 @@ module _ (name : List ℕ) (i p f : ℕ) where
           begins-behind (getD initials i []) (drop 16 name) initial
           ∙ ap (λ (l : List ℕ). getD initials i [] ++ l) (drop-drop (length (getD initials i [])) 16 name ∙ behind-initial)
 
--- ---- what a search of a table of so many rows keeps: where what stands before does not fit, it begins behind the last row
+-- ---- what a search of a table of so many rows keeps: if what stands before does not fit, it
+-- begins after the last row
 
 record Tried (rows : ℕ) (fits : Bool) (Passed : ℕ → Type 0) (row : ℕ) : Type 0 where
   before : row < rows → fits ≡ true
@@ -300,14 +302,14 @@ pub record Initials (name : List ℕ) (i : ℕ) : Type 0 where
 
 pub record Peaks (name : List ℕ) (i : ℕ) (first : Part) (p : ℕ) : Type 0 where
   pub initial : Spells first (getD initials i [])
-  tried : Tried 21 (fitting (getD initials i []) true (drop 16 name)) (NoFinal name i) p
+  tried : Tried 21 (followed (getD initials i []) true (drop 16 name)) (NoFinal name i) p
 
 pub record Finals (name : List ℕ) (i : ℕ) (first : Part) (p : ℕ) (second : Part) (f : ℕ) : Type 0 where
   pub initial : Spells first (getD initials i [])
   pub peak : Spells second (getD peaks p [])
-  tried : Tried 28 (fitting (getD peaks p []) false (drop (behindInitial i) name)) (Miss name i p) f
+  tried : Tried 28 (followed (getD peaks p []) false (drop (behindInitial i) name)) (Miss name i p) f
 
--- the indices behind the strings, as the code has them
+-- the indices after the strings, as the code has them
 initial-behind : {first : Part} (i : ℕ) → Spells first (getD initials i []) → 16 + first .length ≡ behindInitial i
 initial-behind i initial = ap (λ (n : ℕ). 16 + n) (spells-size initial)
 
@@ -328,14 +330,14 @@ module _ {name : List ℕ} where
   initials-none e q = record { tried = tried-none (λ h j k p l f m. prefix-miss name j p f h) e q }
 
   pub peaks-none : {i : ℕ} {first : Part} → Spells first (getD initials i []) → {told : Bool} {p : ℕ}
-      → told ≡ fitting (stringOf first) true (lent 16 name) → p ≡ cond told 0 21 → Peaks name i first p
+      → told ≡ followed (stringOf first) true (lent 16 name) → p ≡ cond told 0 21 → Peaks name i first p
   peaks-none {i} initial e q = record {
     initial = initial;
     tried = tried-none (λ h j k f l. initial-miss name i j f h k) (e ∙ rw (initial .is, lent-is 16 name)) q;
   }
 
   pub finals-none : {i p : ℕ} {first second : Part} → Peaks name i first p → Spells second (getD peaks p []) → {told : Bool} {f : ℕ}
-      → told ≡ fitting (stringOf second) false (lent (16 + first .length) name) → f ≡ cond told 0 28 → Finals name i first p second f
+      → told ≡ followed (stringOf second) false (lent (16 + first .length) name) → f ≡ cond told 0 28 → Finals name i first p second f
   finals-none {i} {p} {first} middle peak e q = record {
     initial = middle .initial;
     peak = peak;
@@ -366,7 +368,8 @@ module _ {name : List ℕ} where
   pub initials-all : {i : ℕ} → Initials name i → 19 ≤ i → (j p f : ℕ) → j < 19 → p < 21 → f < 28 → name ≡ nameBy j p f → ⊥
   initials-all outer h j p f hj hp hf = tried-all (outer .tried) h j hj p hp f hf
 
-  -- where a row is looked at, what stands before fits: so the name is long enough, and where the final fits too, it is found
+  -- where a row is looked at, what stands before fits: so the name is long enough, and if the final
+  -- fits too, it is found
   module _ {i : ℕ} (outer : Initials name i) (hi : i < 19) where
     pub prefix-long : 16 ≤ length name
     unfolding prefix
@@ -374,7 +377,7 @@ module _ {name : List ℕ} where
 
     module _ {p : ℕ} {first : Part} (middle : Peaks name i first p) (hp : p < 21) where
       initial-there : begins (getD initials i []) (drop 16 name) ≡ true
-      initial-there = fitting-begins (getD initials i []) true (drop 16 name) (middle .tried .before hp)
+      initial-there = followed-begins (getD initials i []) true (drop 16 name) (middle .tried .before hp)
 
       pub initial-long : 16 + first .length ≤ length name
       initial-long =
@@ -383,7 +386,7 @@ module _ {name : List ℕ} where
 
       module _ {f : ℕ} {second : Part} (inner : Finals name i first p second f) (hf : f < 28) where
         peak-there : begins (getD peaks p []) (drop (behindInitial i) name) ≡ true
-        peak-there = fitting-begins (getD peaks p []) false (drop (behindInitial i) name) (inner .tried .before hf)
+        peak-there = followed-begins (getD peaks p []) false (drop (behindInitial i) name) (inner .tried .before hf)
 
         pub peak-long : 16 + first .length + second .length ≤ length name
         peak-long =

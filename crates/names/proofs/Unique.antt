@@ -1,6 +1,7 @@
--- A name belongs to one syllable. In order: no two strings of a list are equal, the peaks' letters are vowels and the others' are none, which is
--- computed over the three lists (`name-splits`); so the indices are known by the name (`name-injective`), and DIFFERENT SYLLABLES HAVE DIFFERENT
--- NAMES (`names-differ`). Not here: which syllable has a given name (proofs/Found). Assumes nothing.
+-- A name belongs to one syllable. In order: no two strings of a list are equal, the peaks' letters
+-- are vowels and the others' are none, which is computed over the three lists (`name-splits`); so
+-- the indices are known by the name (`name-injective`), and DIFFERENT SYLLABLES HAVE DIFFERENT
+-- NAMES (`names-differ`).
 use mathlib.Core.Path.{_≡_, refl, sym, _∙_}
 use mathlib.Core.Bool.{Bool, true, false, not}
 use mathlib.Core.List.{List, [], _∷_, cons≢nil}
@@ -8,14 +9,15 @@ use Prim.Native.Nat.{ℕ, _<_}
 use lib.Dec.{T}
 use borrow.Author.Tests.{not-true}
 use Rattle.laws.specs.Lists.{All}
-use Rattle.laws.specs.Strings.{picked, Splits}
+use Rattle.laws.specs.Strings.{picked, Separable}
 use Rattle.laws.proofs.Bools.{T-true}
 use Rattle.laws.proofs.Lists.{cut-back}
 use Rattle.laws.proofs.Tables.{every}
 use Rattle.laws.proofs.Strings.{every-all, packed-distinct, split-once}
 use Rattle.letters.specs.Syllables.{isSyllable, initialOf, peakOf, finalOf}
 use Rattle.letters.proofs.Steps.{syllable, syllable-least, syllable-most, initial-below, peak-below, final-below, syllable-determined}
-use Rattle.names.specs.Names.{initials, peaks, finals, prefix, nameBy, nameOf, vowel}
+use Rattle.names.specs.Names.{initials, peaks, finals, prefix, nameBy, nameOf}
+use Rattle.names.specs.Inner.{vowel}
 
 -- ---- the three lists
 
@@ -40,7 +42,7 @@ not-empty : (x : List ℕ) → T (some x) → x ≡ [] → ⊥
 not-empty [] t e = absurd t
 not-empty (c ∷ x) t e = cons≢nil e
 
-pub name-splits : Splits vowel initials peaks finals
+pub name-splits : Separable vowel initials peaks finals
 unfolding initials peaks finals
 name-splits = record {
   first-free = all-free initials tt;

@@ -1,9 +1,9 @@
--- Naming. In order: a string by value, by its length (`string-none` to `string-three`, `string-fits`); a text written byte by
--- byte, as the prefix is (`wrote-next`, `wrote-text`); the name of I, P and F: its length (`name-size`, `name-counted`); the prefix and three strings
--- written one behind the other (`room-prefix` to `room-last`, `wrote-name`); how naming by I, P and F returns (`by-lacking`, `by-done`); the check for a
--- syllable; the ways in which the call returns (`names-refused`, `names-by`).
--- Not here: that the rows of the tables are the strings (proofs/Rows); how long a name can be (proofs/Lengths); that I, P and F are below
--- 19, 21 and 28 (proofs/Steps of letters). Assumes nothing.
+-- Naming. In order: a string by value, by its length (`string-none` to `string-three`,
+-- `string-fits`); a text written byte by byte, as the prefix is (`wrote-next`, `wrote-text`); the
+-- length of a name (`name-size`, `name-counted`); the prefix and three strings written one after
+-- the other (`room-prefix` to `room-last`, `wrote-name`); how naming by I, P and F returns
+-- (`by-lacking`, `by-done`); the check for a syllable; a syllable's indices (`indices-inside`); how
+-- the call returns (`names-refused`, `names-by`).
 use mathlib.Core.Path.{_≡_, refl, sym}
 use mathlib.Core.Bool.{true, false}
 use mathlib.Core.List.{List, [], _∷_, _++_, append-nil}
@@ -16,16 +16,18 @@ use Rattle.laws.specs.Strings.{picked}
 use Rattle.laws.specs.Writing.{Room, Wrote, Fronts}
 use Rattle.laws.proofs.Filling.{Piece, wrote-one, wrote-two, room-first, room-second, filling-none, filling-last}
 use Rattle.answers.specs.Checks.{passes, refuses, lacking}
-use Rattle.answers.specs.declared.Filled.{Filled}
-use Rattle.answers.specs.declared.Filled.the-variants.{Done, Refused}
-use Rattle.answers.specs.declared.Refusal.the-variants.{NoRoom, NoSyllable}
+use Rattle.answers.specs.declared.answer.Filled.{Filled}
+use Rattle.answers.specs.declared.answer.Filled.the-variants.{Done, Refused}
+use Rattle.answers.specs.declared.refusal.Refusal.the-variants.{NoRoom, NoSyllable}
 use Rattle.answers.proofs.Checks.{lacking-size, lacking-less, lacking-room}
 use Rattle.answers.proofs.Verdicts.{refused-before, refused-room, filled-whole}
 use Rattle.letters.specs.Syllables.{isSyllable}
+use Rattle.letters.proofs.Steps.{initial-below, peak-below, final-below}
 use Rattle.names.specs.Names.{initials, peaks, finals, prefix, nameBy}
-use Rattle.names.specs.Naming.{noSyllable, Names, NamesBy, indicesOf, stringOf, Spells}
+use Rattle.names.specs.Naming.{noSyllable, Names}
+use Rattle.names.specs.Inner.{stringOf, Spells, indicesOf, Inside, NamesBy}
 use Rattle.names.specs.declared.strings.Part.{Part}
-use Rattle.names.specs.declared.named.Indices.{Indices}
+use Rattle.names.specs.declared.write.Indices.{Indices}
 use Rattle.names.proofs.Rows.{string-size, spells-size}
 
 -- ---- a string by value, by its length
@@ -59,7 +61,7 @@ module _ (text : List ℕ) {out₀ out : List ℕ} (at : ℕ) where
 wrote-front : {text out out′ : List ℕ} {r : ℕ} → length text ≤ length out → Wrote out 0 text r out′ → Fronts text out r out′
 wrote-front {text} {out} h w = filling-last h (filling-none text out) (record { eq = sym (append-nil text) }) w
 
--- ---- the name of I, P and F: its length, and its strings one behind the other
+-- ---- the name of I, P and F: its length, and its strings one after the other
 
 module _ (i p f : ℕ) where
   pub name-size : length (nameBy i p f) ≡ 16 + length (getD initials i []) + length (getD peaks p []) + length (getD finals f [])
@@ -90,7 +92,7 @@ module _ {part : Part} {string : List ℕ} (spells : Spells part string) {out : 
   wrote-spelled : {r : ℕ} {out′ : List ℕ} → Wrote out at (stringOf part) r out′ → Wrote out at string r out′
   wrote-spelled w = rw (spells .is) at w
 
--- ---- the prefix and three strings written one behind the other, each with room where the whole has
+-- ---- the prefix and three strings written one after the other, each with room if the whole has
 
 module _ (i p f : ℕ) {out : List ℕ} (fits : length (nameBy i p f) ≤ length out) where
   room-whole : Room out 0 (nameBy i p f)
@@ -147,6 +149,11 @@ no-syllable-refuses code h = simp h
 pub no-syllable-passes : (code : ℕ) → isSyllable code ≡ true → noSyllable code ≡ passes
 unfolding noSyllable
 no-syllable-passes code h = simp h
+
+-- ---- a syllable's indices are inside the tables
+
+pub indices-inside : (code : ℕ) → 0xAC00 ≤ code → code ≤ 0xD7A3 → {indices : Indices} → indices ≡ indicesOf code → Inside indices
+indices-inside code least most e = rw e (initial-below code least most, peak-below code least most, final-below code least most)
 
 -- ---- the ways in which naming returns
 

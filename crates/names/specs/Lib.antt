@@ -1,4 +1,6 @@
--- Crate names, specs/: the strings and the names, and the contracts of naming and reading, lowest first.
--- Not here: any law or proof (proofs/).
+-- The definitions of crate names, lowest first: the strings and the names, the Standard's rule NR1,
+-- the contracts of naming and reading, and what the private functions promise.
 pub mod Names
+pub mod NR1
 pub mod Naming
+pub mod Inner

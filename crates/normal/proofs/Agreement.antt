@@ -1,9 +1,9 @@
--- What NFD and NFC make of a text depends on the database only at the text's own characters and at those that they lead to: two databases that agree
--- there give the same forms. Not here: any one database, or which characters these are.
+-- What NFD and NFC make of a text depends on the database only at the text's own characters and at
+-- those that they lead to: two databases that agree there give the same forms.
 --
--- In order: what to agree means (`Agree`, `AgreePairs`); lists of such characters; the depth, which is no matter; NFD (`nfd-agree`); NFC
--- (`nfc-agree`); and when the composites agree (`pairs-agree`).
--- Assumes nothing.
+-- In order: what to agree means (`Agree`, `AgreePairs`); lists of such characters; the depth, which
+-- is no matter; NFD (`nfd-agree`); NFC (`nfc-agree`); and when the composites agree
+-- (`pairs-agree`).
 use mathlib.Core.Path.{_≡_, refl, sym, _∙_}
 use mathlib.Core.Bool.{Bool}
 use mathlib.Core.Option.{Option, none, some}
@@ -13,11 +13,9 @@ use native.Mathlib.Omega.{arith}
 use Rattle.laws.specs.Lists.{each, All, also}
 use Rattle.laws.proofs.Bools.{test}
 use Rattle.laws.proofs.Lists.{all-append, all-left, all-right, all-of, all-each-of, each-one, each-each, each-same, each-alone}
-use Rattle.normal.specs.Forms.{Database, applied, decomposed, Exchange, here, later, Exchanges, stays, first, moved, ordered, nfd, nfc}
-use Rattle.normal.specs.Forms.{exists, blocks, blocked, Sought, nowhere, last, further, seek, Found, replaced, unblocked, combined}
-use Rattle.normal.specs.Forms.{proceeding, composed, Primary, Sound, Exact}
+use Rattle.normal.specs.Forms.{Database, applied, decomposed, Exchange, here, later, Exchanges, stays, first, moved, ordered, nfd, nfc, exists, blocks, blocked, Sought, nowhere, last, further, lastStarter, Found, withComposite, unblocked, combined, proceeding, composed, Primary, Sound, Exact}
 use Rattle.normal.proofs.Ordering.{ordered-reordered}
-use Rattle.normal.proofs.Composing.{seek-found}
+use Rattle.normal.proofs.Composing.{last-starter-found}
 
 -- ---- what to agree means
 
@@ -119,9 +117,9 @@ module _ (db std : Database) (In : ℕ → Type 0) (a : Agree db std In) where
 
   -- ---- NFC
 
-  seek-agree : {x : List ℕ} → All In x → seek db x ≡ seek std x
-  seek-agree All.none = refl
-  seek-agree (also {a = c} {x = x} k r) = rw (seek-agree r) (more (seek std x))
+  last-starter-agree : {x : List ℕ} → All In x → lastStarter db x ≡ lastStarter std x
+  last-starter-agree All.none = refl
+  last-starter-agree (also {a = c} {x = x} k r) = rw (last-starter-agree r) (more (lastStarter std x))
     where
       more : (s : Sought) → further db c x s ≡ further std c x s
       more nowhere = rw (a .ccc c k)
@@ -133,7 +131,7 @@ module _ (db std : Database) (In : ℕ → Type 0) (a : Agree db std In) where
 
   module _ (b : AgreePairs db std In) where
     combined-agree : {x : List ℕ} {c : ℕ} → All In x → In c → combined db x c ≡ combined std x c
-    combined-agree {x} {c} h k = rw (seek-agree h) (by (seek std x) (seek-found std x))
+    combined-agree {x} {c} h k = rw (last-starter-agree h) (by (lastStarter std x) (last-starter-found std x))
       where
         by : (s : Sought) → Found std x s → unblocked db x c s ≡ unblocked std x c s
         by nowhere f = refl
@@ -142,12 +140,12 @@ module _ (db std : Database) (In : ℕ → Type 0) (a : Agree db std In) where
             rw (blocked-agree (head-in r) (tail-in r) k, b .composite l c (head-in r) k)
 
     combined-in : {x : List ℕ} {c : ℕ} → All In x → In c → All In (combined std x c)
-    combined-in {x} {c} h k = by (seek std x) (seek-found std x)
+    combined-in {x} {c} h k = by (lastStarter std x) (last-starter-found std x)
       where
         stays : All In (x ++ c ∷ [])
         stays = all-append h (also k All.none)
 
-        composes : (u : List ℕ) (l : ℕ) (v : List ℕ) → All In (u ++ l ∷ v) → (o : Option ℕ) → std .composite l c ≡ o → All In (replaced x c u v o)
+        composes : (u : List ℕ) (l : ℕ) (v : List ℕ) → All In (u ++ l ∷ v) → (o : Option ℕ) → std .composite l c ≡ o → All In (withComposite x c u v o)
         composes u l v w none e = stays
         composes u l v w (some p) e =
             let r : All In (l ∷ v) = all-right u (l ∷ v) w in
@@ -171,8 +169,9 @@ module _ (db std : Database) (In : ℕ → Type 0) (a : Agree db std In) where
 
 -- ---- when the composites agree
 
--- std has every primary composite (`exact`), each with the mapping that it undoes (`inverse`), and of such characters only such are made (`made`);
--- the same are excluded (`excluded`), and db has no other primary composite that decomposes into such characters (`others`)
+-- std has every primary composite (`exact`), each with the mapping that it undoes (`inverse`), and
+-- of such characters only such are made (`made`); the same are excluded (`excluded`), and db has no
+-- other primary composite that decomposes into such characters (`others`)
 module _ (db std : Database) (In : ℕ → Type 0) (a : Agree db std In) (s : Sound db) (t : Sound std) (exact : Exact std)
     (inverse : (l c p : ℕ) → std .composite l c ≡ some p → std .mapping p ≡ l ∷ c ∷ [])
     (made : (l c p : ℕ) → In l → In c → std .composite l c ≡ some p → In p)

@@ -1,9 +1,9 @@
--- The rules R1 and R2 of D117, over any database: `seek` finds the last starter, and what becomes of a character C by what stands last before it, a
--- starter or a mark. Not here: any one database.
+-- The rules R1 and R2 of D117, over any database: `lastStarter` finds the last starter, and what
+-- becomes of a character C by what stands last before it, a starter or a mark.
 --
--- In order: `seek` finds the last starter (`seek-found`); where that is when one character more stands at the end; C behind a starter
--- (`combined-starter`); C behind a mark (`combined-mark`).
--- Assumes nothing.
+-- In order: `lastStarter` finds the last starter (`last-starter-found`); where that is when one
+-- character more stands at the end; C after a starter (`combined-starter`); C after a mark
+-- (`combined-mark`).
 use mathlib.Core.Path.{_≡_, refl, ap}
 use mathlib.Core.Bool.{Bool, true, false, cond, _||_}
 use mathlib.Core.Logic.{_⊎_, ⊎-elim}
@@ -14,9 +14,9 @@ use native.Mathlib.Omega.{arith}
 use lib.Dec.{eqb}
 use borrow.Author.Tests.{eqb-false, le-leb}
 use Rattle.laws.proofs.Bools.{test, and-not-right}
-use Rattle.normal.specs.Forms.{Database, starter, exists, blocks, blocked, Sought, nowhere, last, further, seek, Found, replaced, unblocked, combined}
+use Rattle.normal.specs.Forms.{Database, starter, exists, blocks, blocked, Sought, nowhere, last, further, lastStarter, Found, withComposite, unblocked, combined}
 
--- ---- helpers: tests, and what was found with one character more behind it
+-- ---- helpers: tests, and what was found with one character more after it
 
 or-true : (t : Bool) → t || true ≡ true
 or-true true = refl
@@ -38,9 +38,9 @@ module _ (db : Database) where
   -- ---- R1
 
   -- WHAT IS FOUND IS THE LAST STARTER
-  pub seek-found : (x : List ℕ) → Found db x (seek db x)
-  seek-found [] = refl
-  seek-found (a ∷ x) = more (seek db x) (seek-found x)
+  pub last-starter-found : (x : List ℕ) → Found db x (lastStarter db x)
+  last-starter-found [] = refl
+  last-starter-found (a ∷ x) = more (lastStarter db x) (last-starter-found x)
     where
       first : exists (starter db) x ≡ false → (t : Bool) → starter db a ≡ t → Found db (a ∷ x) (cond t (last [] a x) nowhere)
       first h true e = (refl, e, h)
@@ -51,14 +51,14 @@ module _ (db : Database) where
       more (last u l v) h = (ap (λ (y : List ℕ). a ∷ y) (h .0), h .1, h .2)
 
   -- a starter at the end is the last one; before a mark at the end it is the one that it was
-  seek-starter : (x : List ℕ) (a : ℕ) → starter db a ≡ true → seek db (x ++ a ∷ []) ≡ last x a []
-  seek-starter [] a h = rw h
-  seek-starter (b ∷ x) a h = rw (seek-starter x a h)
+  last-starter-at-end : (x : List ℕ) (a : ℕ) → starter db a ≡ true → lastStarter db (x ++ a ∷ []) ≡ last x a []
+  last-starter-at-end [] a h = rw h
+  last-starter-at-end (b ∷ x) a h = rw (last-starter-at-end x a h)
 
-  seek-mark : (x : List ℕ) (a : ℕ) → starter db a ≡ false → seek db (x ++ a ∷ []) ≡ behind a (seek db x)
+  last-starter-before-mark : (x : List ℕ) (a : ℕ) → starter db a ≡ false → lastStarter db (x ++ a ∷ []) ≡ behind a (lastStarter db x)
   unfolding behind
-  seek-mark [] a h = rw h
-  seek-mark (b ∷ x) a h = rw (seek-mark x a h) (more (seek db x))
+  last-starter-before-mark [] a h = rw h
+  last-starter-before-mark (b ∷ x) a h = rw (last-starter-before-mark x a h) (more (lastStarter db x))
     where
       first : (t : Bool) → cond t (last [] b (x ++ a ∷ [])) nowhere ≡ behind a (cond t (last [] b x) nowhere)
       first true = refl
@@ -70,13 +70,13 @@ module _ (db : Database) where
 
   -- ---- R2
 
-  -- behind a starter nothing stands between, and so nothing blocks
+  -- after a starter nothing stands between, and so nothing blocks
   none-blocked : (l c : ℕ) → blocked db l [] c ≡ false
   unfolding blocked
   none-blocked l c = and-not-right (eqb (db .ccc l) 0) false refl
 
-  pub combined-starter : (x : List ℕ) (a c : ℕ) → starter db a ≡ true → combined db (x ++ a ∷ []) c ≡ replaced (x ++ a ∷ []) c x [] (db .composite a c)
-  combined-starter x a c h = rw (seek-starter x a h, none-blocked a c)
+  pub combined-starter : (x : List ℕ) (a c : ℕ) → starter db a ≡ true → combined db (x ++ a ∷ []) c ≡ withComposite (x ++ a ∷ []) c x [] (db .composite a c)
+  combined-starter x a c h = rw (last-starter-at-end x a h, none-blocked a c)
 
   -- D115 at a C that is itself a starter: whatever stands between blocks it
   blocks-starter : (c b : ℕ) → db .ccc c ≡ 0 → blocks db c b ≡ true
@@ -87,11 +87,11 @@ module _ (db : Database) where
   unfolding blocked
   starter-blocked l x a c h k = rw h (exists-last (blocks db c) x a (blocks-starter c a k))
 
-  -- so behind a mark C stays, where only starters compose
+  -- so after a mark C stays, where only starters compose
   pub combined-mark : (x : List ℕ) (a c : ℕ) → starter db a ≡ false → ((l : ℕ) → (db .ccc c ≡ 0) ⊎ (db .composite l c ≡ none))
       → combined db (x ++ a ∷ []) c ≡ (x ++ a ∷ []) ++ c ∷ []
   unfolding behind
-  combined-mark x a c h only = rw (seek-mark x a h) (by (seek db x) (seek-found x))
+  combined-mark x a c h only = rw (last-starter-before-mark x a h) (by (lastStarter db x) (last-starter-found x))
     where
       by : (s : Sought) → Found db x s → unblocked db (x ++ a ∷ []) c (behind a s) ≡ (x ++ a ∷ []) ++ c ∷ []
       by nowhere k = refl

@@ -1,9 +1,9 @@
--- The database `jamo` is what D68, D114 and D117 ask of one: nothing that it has decomposed can be decomposed further, and its composites are the
--- primary composites, all of them and no others. Not here: the forms of a text over it (proofs/Conjoining), the UCD (proofs/Repertoire).
+-- The database `jamo` is what D68, D114 and D117 ask of one: nothing that it has decomposed can be
+-- decomposed further, and its composites are the primary composites, all of them and no others.
 --
--- In order: whatever is canonically equivalent to two characters is their composite (`jamo-exact`); the composites are primary and equivalent, and
--- none with a mapping of two is left out (`jamo-sound`); they are the mappings undone (`jamo-inverse`).
--- Assumes nothing.
+-- In order: whatever is canonically equivalent to two characters is their composite (`jamo-exact`);
+-- the composites are primary and equivalent, and none with a mapping of two is left out
+-- (`jamo-sound`); they are the mappings undone (`jamo-inverse`).
 use mathlib.Core.Path.{_≡_, refl, sym, _∙_}
 use mathlib.Core.Bool.{Bool, true, false, cond}
 use mathlib.Core.Option.{some}
@@ -14,7 +14,7 @@ use Rattle.laws.specs.Lists.{each, All, also}
 use Rattle.laws.proofs.Lists.{one-not-two, each-one, each-same, each-alone}
 use Rattle.letters.specs.Syllables.{oneStep, partsOf}
 use Rattle.letters.specs.Chapter3.{mapping}
-use Rattle.letters.proofs.Parts.{Closed, parts-closed, full-closed, full-of-step}
+use Rattle.letters.proofs.FullParts.{Closed, parts-closed, full-closed, full-of-step}
 use Rattle.letters.proofs.Chapter3.{step-mapping}
 use Rattle.joining.specs.Roles.{pair}
 use Rattle.normal.specs.Forms.{applied, composed, Decomposable, Equivalent, Sound, Exact}

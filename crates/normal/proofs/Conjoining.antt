@@ -1,9 +1,8 @@
--- Over the database `jamo`, for every text whatever: NFD is full parts, NFC is joined text, and canonical composition (D117) alone is joining.
--- Not here: other databases, and so the UCD (proofs/Repertoire).
+-- Over the database `jamo`, for every text whatever: NFD is full parts, NFC is joined text, and
+-- canonical composition (D117) alone is joining.
 --
--- In order: NFD (`nfd-parts`); one character more by D117 and by `pair` (`combined-pair`); composition and the joiner run side by side
--- (`composed-join`); NFC (`nfc-join`).
--- Assumes nothing.
+-- In order: NFD (`nfd-parts`); one character more by D117 and by `pair` (`combined-pair`);
+-- composition and the joiner run side by side (`composed-join`); NFC (`nfc-join`).
 use mathlib.Core.Path.{_≡_, refl, sym, _∙_}
 use mathlib.Core.Bool.{Bool, true, false, cond, false≢true}
 use mathlib.Core.Logic.{_⊎_, inl, inr, ⊎-elim}
@@ -22,7 +21,7 @@ use Rattle.joining.specs.Roles.{pair}
 use Rattle.joining.specs.Joining.{opens, held, meets, unless, joiner, join}
 use Rattle.joining.specs.declared.joiner.Open.{Open}
 use Rattle.joining.specs.declared.joiner.Open.the-variants.{Nothing}
-use Rattle.normal.specs.Forms.{starter, applied, decomposed, reorderable, NoPairWith, NoPair, replaced, combined, proceeding, composed, nfd, nfc}
+use Rattle.normal.specs.Forms.{starter, applied, decomposed, reorderable, NoPairWith, NoPair, withComposite, combined, proceeding, composed, nfd, nfc}
 use Rattle.normal.specs.Jamo.{toneClass, composite, jamo}
 use Rattle.joining.proofs.Joins.{once, meets-pair, stays-open, join-parts}
 use Rattle.normal.proofs.Ordering.{ordered-same}
@@ -60,16 +59,18 @@ no-pairs (a ∷ x) = (no-pair-with a x, no-pairs x)
 pub nfd-parts : (x : List ℕ) → nfd jamo x ≡ fullParts x
 nfd-parts x = rw (decomposed-parts x) (ordered-same jamo (fullParts x) (no-pairs (fullParts x)))
 
--- ---- one character more: C and what stands last before it compose where `pair` joins them, and else C stays
+-- ---- one character more:
+-- C and what stands last before it compose where `pair` joins them, and else C stays
 
--- behind x comes c: what it joins to stands behind `out`, or it joins to nothing (0) and stands behind x
+-- after x comes c: what it joins to stands after `out`, or it joins to nothing (0) and stands after
+-- x
 abbrev placed : List ℕ → List ℕ → ℕ → ℕ → List ℕ
 placed x out c joined = cond (eqb joined 0) (x ++ c ∷ []) (out ++ joined ∷ [])
 
-replaced-placed : (x out : List ℕ) (c p : ℕ) → replaced x c out [] (unlessZero p) ≡ placed x out c p
-replaced-placed x out c p = by (eqb p 0)
+composite-placed : (x out : List ℕ) (c p : ℕ) → withComposite x c out [] (unlessZero p) ≡ placed x out c p
+composite-placed x out c p = by (eqb p 0)
   where
-    by : (b : Bool) → replaced x c out [] (cond b none (some p)) ≡ cond b (x ++ c ∷ []) (out ++ p ∷ [])
+    by : (b : Bool) → withComposite x c out [] (cond b none (some p)) ≡ cond b (x ++ c ∷ []) (out ++ p ∷ [])
     by true = refl
     by false = refl
 
@@ -89,17 +90,18 @@ mark-apart a c h = test (eqb (pair a c) 0) (λ q. q) (λ q. absurd (false≢true
 
 pub combined-pair : (x : List ℕ) (a c : ℕ) → combined jamo (x ++ a ∷ []) c ≡ placed (x ++ a ∷ []) x c (pair a c)
 combined-pair x a c =
-    test (starter jamo a) (λ h. combined-starter jamo x a c h ∙ rw (composite-pair a c) (replaced-placed (x ++ a ∷ []) x c (pair a c)))
+    test (starter jamo a) (λ h. combined-starter jamo x a c h ∙ rw (composite-pair a c) (composite-placed (x ++ a ∷ []) x c (pair a c)))
     (λ h. combined-mark jamo x a c h (λ l. starter-or-none l c) ∙ rw (mark-apart a c h))
 
 -- ---- composition and the joiner run side by side
 
--- x is what composition has made so far: what the joiner has written and then what it holds open, and C comes to both in the same way
+-- x is what composition has made so far: what the joiner has written and then what it holds open,
+-- and C comes to both in the same way
 record Holds (o : Open) (out x : List ℕ) : Type 0 where
   so-far : x ≡ out ++ held o
   next : (c : ℕ) → combined jamo x c ≡ placed x out c (meets o c)
 
--- so it is behind any text with a character at its end that the joiner has just read or made
+-- so it is after any text with a character at its end that the joiner has just read or made
 holds-last : (out : List ℕ) (c : ℕ) → Holds (opens c) (out ++ unless (opens c) c) (out ++ c ∷ [])
 holds-last out c = record { so-far = rw (append-assoc, once c); next = λ d. combined-pair out c d ∙ rw (meets-pair c d) (same d) }
   where

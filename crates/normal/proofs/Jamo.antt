@@ -1,9 +1,9 @@
--- Laws of the database `jamo`, character by character: its combining classes, and its primary composites, which are what the joiner's `pair` gives,
--- and the one step undone. Not here: the forms of a text (proofs/Conjoining), what D114 and D117 ask of composites (proofs/Composites).
+-- Laws of the database `jamo`, character by character: its combining classes, and its primary
+-- composites, which are what the joiner's `pair` gives, and the one step undone.
 --
--- In order: the combining class; the ranges of L, V, T and LV; composites and `pair` (`composite-pair`); composites and the one step
--- (`composite-step`, `step-composite`), so that what composes is a starter (`composite-starters`).
--- Assumes nothing.
+-- In order: the combining class; the ranges of L, V, T and LV; composites and `pair`
+-- (`composite-pair`); composites and the one step (`composite-step`, `step-composite`), so that
+-- what composes is a starter (`composite-starters`).
 use mathlib.Core.Path.{_≡_, refl, sym, _∙_}
 use mathlib.Core.Bool.{Bool, true, false, cond, _&&_, false≢true}
 use mathlib.Core.Logic.{_⊎_, inl, inr, ⊎-elim}

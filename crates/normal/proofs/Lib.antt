@@ -1,5 +1,5 @@
--- Crate normal, proofs/: the laws of ordering and composing, and that full parts are NFD and joined text is NFC, lowest first.
--- Not here: the definitions (specs/), and the proofs of the functions, which stand in folders of their own.
+-- The laws of crate normal. What a caller may cite is `pub mod`; functions' proofs have folders of
+-- their own.
 pub mod Vectors
 pub mod Ordering
 pub mod Composing

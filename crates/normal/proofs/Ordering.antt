@@ -1,9 +1,10 @@
--- `ordered` is what D109 asks for, over any database: it is reached by exchanging reorderable pairs, it has none left, and nothing else is so. In
--- whatever order the pairs are exchanged, the end is the same. Not here: any one database.
+-- `ordered` is what D109 asks for, over any database: it is reached by exchanging reorderable
+-- pairs, it has none left, and nothing else is so. In whatever order the pairs are exchanged, the
+-- end is the same.
 --
--- In order: `ordered` is reached; none is left; where there is none, nothing changes (`ordered-same`); the order of the exchanges is no matter; and
--- the two halves together (`ordered-reordered`, `reordered-ordered`), for NFD too (`nfd-reordered`).
--- Assumes nothing.
+-- In order: `ordered` is reached; none is left; where there is none, nothing changes
+-- (`ordered-same`); the order of the exchanges is no matter; and the two halves together
+-- (`ordered-reordered`, `reordered-ordered`), for NFD too (`nfd-reordered`).
 use mathlib.Core.Path.{_≡_, refl, sym, _∙_, ap}
 use mathlib.Core.Bool.{true, false}
 use mathlib.Core.List.{List, [], _∷_}
@@ -12,8 +13,7 @@ use native.Mathlib.Omega.{arith}
 use lib.Dec.{ltb}
 use borrow.Author.Tests.{ltb-true, lt-ltb, le-ltb}
 use Rattle.laws.proofs.Bools.{test, and-left, and-right}
-use Rattle.normal.specs.Forms.{Database, reorderable, Exchange, here, later, Exchanges, stays, first, NoPairWith, NoPair, Reordered}
-use Rattle.normal.specs.Forms.{moved, ordered, decomposed, nfd}
+use Rattle.normal.specs.Forms.{Database, reorderable, Exchange, here, later, Exchanges, stays, first, NoPairWith, NoPair, Reordered, moved, ordered, decomposed, nfd}
 
 module _ (db : Database) where
   -- ---- it is reached

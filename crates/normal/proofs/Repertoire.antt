@@ -1,11 +1,11 @@
--- THE THEOREMS of this crate, for every database that says of document 01's repertoire what the UCD says, and for every text of that repertoire: full
--- parts are NFD, joined text is NFC, and two texts are canonically equivalent exactly when they join to the same text.
--- And of every text, whatever its characters: its full parts have its NFD. Not here: more of texts with other characters, and the UCD's files themselves, to
--- which specs/Repertoire's record is to be compared.
+-- THE THEOREMS of this crate, for every database that says of document 01's repertoire what the UCD
+-- says, and for every text of that repertoire: full parts are NFD, joined text is NFC, and two
+-- texts are canonically equivalent exactly when they join to the same text. And of every text,
+-- whatever its characters: its full parts have its NFD.
 --
--- In order: taking apart and composing stay in the repertoire; every such database agrees with `jamo` there; `parts-are-nfd`, `nfd-of-parts`,
--- `joined-is-nfc` and `equivalent-joined`; and that there is such a database (`jamo-ucd`).
--- Assumes nothing.
+-- In order: taking apart and composing stay in the repertoire; every such database agrees with
+-- `jamo` there; `parts-are-nfd`, `nfd-of-parts`, `joined-equivalent`, `joined-is-nfc` and
+-- `equivalent-joined`; and that there is such a database (`jamo-ucd`).
 use mathlib.Core.Path.{_≡_, refl, sym, _∙_, ap}
 use mathlib.Core.Bool.{true, false}
 use mathlib.Core.Logic.{inl, inr, ⊎-elim, _↔_}
@@ -20,13 +20,13 @@ use Rattle.laws.proofs.Ranges.{within-least, within-most, within-not}
 use Rattle.letters.specs.Syllables.{isSyllable, partsOf, fullParts}
 use Rattle.letters.specs.Chapter3.{precomposed, mapping}
 use Rattle.letters.proofs.Steps.{syllable-least, syllable-most, step-other}
-use Rattle.letters.proofs.Parts.{parts-other, full-full}
+use Rattle.letters.proofs.FullParts.{parts-other, full-full}
 use Rattle.letters.proofs.Chapter3.{precomposed-is, step-mapping}
 use Rattle.joining.specs.Joining.{join}
 use Rattle.normal.specs.Forms.{Database, applied, decomposed, ordered, nfd, nfc, Equivalent, Primary}
 use Rattle.normal.specs.Jamo.{toneClass, composite, jamo}
 use Rattle.normal.specs.Repertoire.{Repertoire, letter, whole, Ucd}
-use Rattle.joining.proofs.Joins.{same-parts, same-join}
+use Rattle.joining.proofs.Joins.{parts-join, same-parts, same-join}
 use Rattle.normal.proofs.Steps.{two-syllable, Part, letter as part-letter, whole as part-whole, step-parts}
 use Rattle.normal.proofs.Agreement.{Agree, AgreePairs, decomposed-agree, nfd-in, nfd-agree, nfc-agree, pairs-agree}
 use Rattle.normal.proofs.Jamo.{class-tone, class-below, class-above, composite-step}
@@ -85,7 +85,8 @@ module _ (ucd : Database) (u : Ucd ucd) where
   pub parts-are-nfd : (t : List ℕ) → All Repertoire t → nfd ucd t ≡ fullParts t
   parts-are-nfd t h = nfd-agree ucd jamo Repertoire agrees (u .sound) jamo-sound h ∙ nfd-parts t
 
-  -- OF EVERY TEXT, whatever characters it has, the full parts have the text's NFD: a syllable is of the repertoire, and any other character is its own part
+  -- OF EVERY TEXT, whatever characters it has, the full parts have the text's NFD: a syllable is of
+  -- the repertoire, and any other character is its own part
   parts-decomposed : (c : ℕ) → decomposed ucd (partsOf c) ≡ applied ucd (ucd .depth) c
   parts-decomposed c = test (isSyllable c) apart alone
     where
@@ -107,6 +108,10 @@ module _ (ucd : Database) (u : Ucd ucd) where
       ap (ordered ucd)
       (each-each (applied ucd (ucd .depth)) partsOf x
       ∙ each-same (λ c. decomposed ucd (partsOf c)) (applied ucd (ucd .depth)) parts-decomposed x)
+
+  -- OF EVERY TEXT, whatever characters it has, the joined text is canonically equivalent to it
+  pub joined-equivalent : (x : List ℕ) → Equivalent ucd (join x) x
+  joined-equivalent x = sym (nfd-of-parts (join x)) ∙ ap (nfd ucd) (parts-join x) ∙ nfd-of-parts x
 
   -- JOINED TEXT IS NFC
   pub joined-is-nfc : (t : List ℕ) → All Repertoire t → nfc ucd t ≡ join t

@@ -1,9 +1,8 @@
--- The one step (crate letters, specs/Syllables) read backwards: what is known of a code point and of its parts once it has two.
--- Not here: the one step in its three cases (letters, proofs/Steps), and what two neighbours join to (crate joining, proofs/Pairs).
+-- The one step (crate letters, specs/Syllables) read backwards: what is known of a code point and
+-- of its parts once it has two.
 --
--- In order: lists of one (`one-same`); by cases on a code point with two parts (`by-two`), which is a syllable
--- (`two-syllable`); and where the parts of a syllable lie (`Part`, `step-parts`).
--- Assumes nothing.
+-- In order: lists of one (`one-same`); by cases on a code point with two parts (`by-two`), which is
+-- a syllable (`two-syllable`); and where the parts of a syllable lie (`Part`, `step-parts`).
 use mathlib.Core.Path.{_≡_, sym, _∙_}
 use mathlib.Core.Bool.{true, false≢true}
 use mathlib.Core.List.{[], _∷_}

@@ -1,9 +1,9 @@
--- Worked examples of the two forms, each a closed fact that antt computes: they try the definitions, and prove nothing about any other text.
--- Not here: the theorems (proofs/Conjoining, proofs/Repertoire).
+-- Worked examples of the two forms, each a closed fact that antt computes: they try the
+-- definitions, and prove nothing about any other text.
 --
--- In order: texts over the database `jamo`, from section 3.12 and document 01 (`HangulForms`); a database of a few Latin rows of the UCD; texts over
--- it, mostly from the figures of Unicode Standard Annex #15 (`LatinForms`), because over `jamo` nothing is ever reordered.
--- Assumes nothing.
+-- In order: texts over the database `jamo`, from section 3.12 and document 01 (`HangulForms`); a
+-- database of a few Latin rows of the UCD; texts over it, mostly from the figures of Unicode
+-- Standard Annex #15 (`LatinForms`), because over `jamo` nothing is ever reordered.
 use mathlib.Core.Path.{_≡_, refl}
 use mathlib.Core.Bool.{Bool, true, false, cond, _&&_, _||_}
 use mathlib.Core.Option.{Option, none, some}
@@ -41,7 +41,7 @@ pub record HangulForms : Type 0 where
   pub second-final-stays : HasForms jamo (0xAC01 ∷ 0x11A8 ∷ []) (0x1100 ∷ 0x1161 ∷ 0x11A8 ∷ 0x11A8 ∷ []) (0xAC01 ∷ 0x11A8 ∷ [])
   -- case 7: of two initials the last composes
   pub last-initial : HasForms jamo (0x1100 ∷ 0x1100 ∷ 0x1161 ∷ []) (0x1100 ∷ 0x1100 ∷ 0x1161 ∷ []) (0x1100 ∷ 0xAC00 ∷ [])
-  -- three letters, and two behind another character
+  -- three letters, and two after another character
   pub letters : HasForms jamo (0x1100 ∷ 0x1161 ∷ 0x11A8 ∷ []) (0x1100 ∷ 0x1161 ∷ 0x11A8 ∷ []) (0xAC01 ∷ [])
   pub behind-ascii : HasForms jamo (0x0041 ∷ 0x1100 ∷ 0x1161 ∷ []) (0x0041 ∷ 0x1100 ∷ 0x1161 ∷ []) (0x0041 ∷ 0xAC00 ∷ [])
   -- an LV and a final

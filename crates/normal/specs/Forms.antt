@@ -1,11 +1,13 @@
--- The normal forms NFD and NFC over any character database: The Unicode Standard 15.0, chapter 3, sections 3.7, 3.11 and 3.12, line by line. A number
--- D.. or R.. is that of the Standard's definition or rule, which stands here in other words; a sequence of characters is a list of code points.
--- Not here: any one database (specs/Jamo, specs/Repertoire), the compatibility forms, the joiner (crate joining), and the laws (proofs/).
+-- The normal forms NFD and NFC over any character database: The Unicode Standard 15.0, chapter 3,
+-- sections 3.7, 3.11 and 3.12, line by line. A number D.. or R.. is that of the Standard's
+-- definition or rule, which stands here in other words; a sequence of characters is a list of code
+-- points.
 --
--- In order: the database; decomposition (`applied`, `decomposed`); canonical ordering (`reorderable`; D109 as a property, `Reordered`, and as a
--- function, `ordered`); canonical composition (`blocked`, `seek`, `combined`, `composed`); the forms `nfd` and `nfc`; what is defined by them
--- (`Decomposable`, `Equivalent`, `Primary`); and what a database's `depth` and `composite` have to be (`Sound`, `Exact`).
--- Assumes nothing.
+-- In order: the database; decomposition (`applied`, `decomposed`); canonical ordering
+-- (`reorderable`; D109 as a property, `Reordered`, and as a function, `ordered`); canonical
+-- composition (`blocked`, `lastStarter`, `combined`, `composed`); the forms `nfd` and `nfc`; what
+-- is defined by them (`Decomposable`, `Equivalent`, `Primary`); and what a database's `depth` and
+-- `composite` have to be (`Sound`, `Exact`).
 use mathlib.Core.Path.{_≡_}
 use mathlib.Core.Bool.{Bool, true, false, cond, _&&_, _||_}
 use mathlib.Core.Option.{Option, none, some}
@@ -19,13 +21,15 @@ use Rattle.laws.specs.Lists.{each}
 pub record Database : Type 0 where
   -- D104: the canonical combining class
   pub ccc : ℕ → ℕ
-  -- D62 and section 3.12: the canonical decomposition mapping; a code point that has none is mapped to itself, as is the UCD's default
+  -- D62 and section 3.12: the canonical decomposition mapping; a code point that has none is mapped
+  -- to itself, as is the UCD's default
   pub mapping : ℕ → List ℕ
   -- how often the mappings are applied until nothing can be decomposed further (`Sound`, below)
   pub depth : ℕ
   -- D113: the property Full_Composition_Exclusion
   pub excluded : ℕ → Bool
-  -- D117, R2: the primary composite to which <L, C> is canonically equivalent, where there is one (`Sound`, below)
+  -- D117, R2: the primary composite to which <L, C> is canonically equivalent, where there is one
+  -- (`Sound`, below)
   pub composite : ℕ → ℕ → Option ℕ
 
 -- D107, starter: of combining class 0
@@ -48,7 +52,8 @@ decomposed db x = each (λ c. applied db (db .depth) c) x
 abbrev pub reorderable : Database → ℕ → ℕ → Bool
 reorderable db a b = ltb (db .ccc b) (db .ccc a) && ltb 0 (db .ccc b)
 
--- D109, canonical ordering algorithm, as a property: as long as there are reorderable pairs, one of them, no matter which, changes places
+-- D109, canonical ordering algorithm, as a property: as long as there are reorderable pairs, one of
+-- them, no matter which, changes places
 pub data Exchange (db : Database) : List ℕ → List ℕ → Type 0 where
   here : {a b : ℕ} {x : List ℕ} → reorderable db a b ≡ true → Exchange db (a ∷ b ∷ x) (b ∷ a ∷ x)
   later : {a : ℕ} {x y : List ℕ} → Exchange db x y → Exchange db (a ∷ x) (a ∷ y)
@@ -71,8 +76,9 @@ pub record Reordered (db : Database) (x y : List ℕ) : Type 0 where
   pub exchanged : Exchanges db x y
   pub no-more : NoPair db y
 
--- D109 as a function: a character that comes in front of an ordered sequence changes places with its next neighbour as long as the two are a
--- reorderable pair. This is the one y with Reordered db x y (`ordered-reordered` and `reordered-ordered` of proofs/Ordering)
+-- D109 as a function: a character that comes in front of an ordered sequence changes places with
+-- its next neighbour as long as the two are a reorderable pair. This is the one y with Reordered db
+-- x y (`ordered-reordered` and `reordered-ordered` of proofs/Ordering)
 abbrev pub moved : Database → ℕ → List ℕ → List ℕ
 moved db a [] = a ∷ []
 moved db a (b ∷ x) = cond (reorderable db a b) (b ∷ moved db a x) (a ∷ b ∷ x)
@@ -87,14 +93,16 @@ abbrev pub exists : (ℕ → Bool) → List ℕ → Bool
 exists f [] = false
 exists f (b ∷ x) = f b || exists f x
 
--- D115: B between A and C blocks C where ccc(B) = 0 or ccc(B) ≥ ccc(C); C is blocked from A where ccc(A) = 0 and some B between them blocks it
+-- D115: B between A and C blocks C where ccc(B) = 0 or ccc(B) ≥ ccc(C); C is blocked from A where
+-- ccc(A) = 0 and some B between them blocks it
 abbrev pub blocks : Database → ℕ → ℕ → Bool
 blocks db c b = eqb (db .ccc b) 0 || leb (db .ccc c) (db .ccc b)
 
 unfoldable pub blocked : Database → ℕ → List ℕ → ℕ → Bool
 blocked db a between c = eqb (db .ccc a) 0 && exists (λ b. blocks db c b) between
 
--- D117, R1: in the sequence before C the last starter L is looked for, with what stands before it and what stands between it and C
+-- D117, R1: in the sequence before C the last starter L is looked for, with what stands before it
+-- and what stands between it and C
 pub data Sought : Type 0 where
   nowhere : Sought
   last : List ℕ → ℕ → List ℕ → Sought
@@ -103,27 +111,28 @@ abbrev pub further : Database → ℕ → List ℕ → Sought → Sought
 further db a x (last before l between) = last (a ∷ before) l between
 further db a x nowhere = cond (starter db a) (last [] a x) nowhere
 
-abbrev pub seek : Database → List ℕ → Sought
-seek db [] = nowhere
-seek db (a ∷ x) = further db a x (seek db x)
+abbrev pub lastStarter : Database → List ℕ → Sought
+lastStarter db [] = nowhere
+lastStarter db (a ∷ x) = further db a x (lastStarter db x)
 
--- R1 as a property: L is a starter of x with no starter behind it, or x has no starter (`seek-found` of proofs/Composing)
+-- R1 as a property: L is a starter of x with no starter after it, or x has no starter
+-- (`last-starter-found` of proofs/Composing)
 abbrev pub Found : Database → List ℕ → Sought → Type 0
 Found db x nowhere = exists (starter db) x ≡ false
 Found db x (last before l between) = (x ≡ before ++ l ∷ between) × (starter db l ≡ true) × (exists (starter db) between ≡ false)
 
--- D117, R2: where there is such an L from which C is not blocked, and <L, C> has a primary composite P, there P stands for L, and C falls away;
--- else C stays, behind the sequence x before it
-abbrev pub replaced : List ℕ → ℕ → List ℕ → List ℕ → Option ℕ → List ℕ
-replaced x c before between (some p) = before ++ p ∷ between
-replaced x c before between none = x ++ c ∷ []
+-- D117, R2: where there is such an L from which C is not blocked, and <L, C> has a primary
+-- composite P, there P stands for L, and C falls away; else C stays, after the sequence x before it
+abbrev pub withComposite : List ℕ → ℕ → List ℕ → List ℕ → Option ℕ → List ℕ
+withComposite x c before between (some p) = before ++ p ∷ between
+withComposite x c before between none = x ++ c ∷ []
 
 abbrev pub unblocked : Database → List ℕ → ℕ → Sought → List ℕ
 unblocked db x c nowhere = x ++ c ∷ []
-unblocked db x c (last before l between) = cond (blocked db l between c) (x ++ c ∷ []) (replaced x c before between (db .composite l c))
+unblocked db x c (last before l between) = cond (blocked db l between c) (x ++ c ∷ []) (withComposite x c before between (db .composite l c))
 
 abbrev pub combined : Database → List ℕ → ℕ → List ℕ
-combined db x c = unblocked db x c (seek db x)
+combined db x c = unblocked db x c (lastStarter db x)
 
 -- D117, canonical composition algorithm: from the second character on, each in its turn is C
 abbrev pub proceeding : Database → List ℕ → List ℕ → List ℕ
@@ -136,7 +145,8 @@ composed db (a ∷ y) = proceeding db (a ∷ []) y
 
 -- ---- 3.11, the forms
 
--- D118, NFD: D68 as a whole, the mappings applied to the end and what they give put into canonical order
+-- D118, NFD: D68 as a whole, the mappings applied to the end and what they give put into canonical
+-- order
 abbrev pub nfd : Database → List ℕ → List ℕ
 nfd db x = ordered db (decomposed db x)
 

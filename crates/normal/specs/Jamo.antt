@@ -1,9 +1,10 @@
--- A small character database: the conjoining jamo and the syllables as The Unicode Standard 15.0 gives them in chapter 3, section 3.12, in its own
--- terms, and the two tone marks with their combining class. It is not the UCD, for no other character has a mapping or a class here; it has what the
--- UCD says of document 01's repertoire (`jamo-ucd` of proofs/Repertoire). Not here: document 01's terms, and the joiner (crate joining).
+-- A small character database: the conjoining jamo and the syllables as The Unicode Standard 15.0
+-- gives them in chapter 3, section 3.12, in its own terms, and the two tone marks with their
+-- combining class. It is not the UCD, for no other character has a mapping or a class here; it has
+-- what the UCD says of document 01's repertoire (`jamo-ucd` of proofs/Repertoire).
 --
--- In order: the combining class; the ranges of L, V, T and LV; the primary composites; the database `jamo`.
--- Assumes nothing.
+-- In order: the combining class; the ranges of L, V, T and LV; the primary composites; the database
+-- `jamo`.
 use mathlib.Core.Bool.{Bool, false, cond, _&&_}
 use mathlib.Core.Option.{Option, none, some}
 use Prim.Native.Nat.{ℕ, _+_, _-_, _*_, _%_}
@@ -18,7 +19,8 @@ toneClass c = cond (within 0x302E 0x302F c) 224 0
 
 -- ---- 'Hangul Syllable Composition'
 
--- L, V and T by their indices: 0 ≤ LIndex < LCount, 0 ≤ VIndex < VCount, and 0 < TIndex < TCount, since TBase itself is no T
+-- L, V and T by their indices: 0 ≤ LIndex < LCount, 0 ≤ VIndex < VCount, and 0 < TIndex < TCount,
+-- since TBase itself is no T
 abbrev pub LIndex : ℕ → ℕ
 LIndex l = l - LBase
 
@@ -41,7 +43,8 @@ isT t = ltb 0 (TIndex t) && ltb (TIndex t) TCount
 unfoldable pub isLV : ℕ → Bool
 isLV s = precomposed s && eqb (SIndex s % TCount) 0
 
--- 'Arithmetic Primary Composite Mapping': <L, V> to the syllable of LVIndex, <LV, T> to the syllable TIndex behind the LV; no other two compose
+-- 'Arithmetic Primary Composite Mapping': <L, V> to the syllable of LVIndex, <LV, T> to the
+-- syllable TIndex after the LV; no other two compose
 abbrev pub LVIndex : ℕ → ℕ → ℕ
 LVIndex l v = LIndex l * NCount + VIndex v * TCount
 

@@ -1,2 +1,2 @@
-// Normal forms as chapter 3 of the Unicode Standard defines them, and that full parts and joined text are these (specs/ and proofs/).
-// No code: definitions and laws alone.
+// Normal forms as chapter 3 of the Unicode Standard defines them, and that full parts and joined
+// text are these. It has no code.

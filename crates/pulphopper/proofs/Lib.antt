@@ -1,3 +1,3 @@
--- Crate pulphopper, proofs/: that what C is told determines each call, lowest first.
--- Not here: the definitions (specs/), and the proofs of the functions, which stand in folders of their own.
+-- The laws of crate pulphopper. What a caller may cite is `pub mod`; functions' proofs have folders of
+-- their own.
 pub mod Replies

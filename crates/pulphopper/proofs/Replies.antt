@@ -1,29 +1,30 @@
--- Laws of what C is told: an answer by what mending answers (`mends-done`, `mends-few`, `mends-refused`), by what naming
--- answers (`names-done`, `names-refused`), by what reading a name does (`reads-done`, `reads-refused`) and by what ranking does (`ranks-done`,
--- `ranks-refused`); and that any two results that a contract admits are equal (`mends-unique`, `names-unique`, `reads-unique`, `ranks-unique`).
--- Not here: the verdicts (crate answers). Assumes nothing.
+-- Laws of what C is told: an answer by what mending answers (`mends-done`, `mends-few`,
+-- `mends-refused`), by what naming answers (`names-done`, `names-refused`), by what reading a name
+-- answers (`reads-done`, `reads-refused`) and by what ranking answers (`ranks-done`,
+-- `ranks-refused`); and any two results that a contract admits are equal (`mends-unique`,
+-- `names-unique`, `reads-unique`, `ranks-unique`).
 use mathlib.Core.Path.{_≡_, sym, _∙_, ap}
 use mathlib.Core.List.{List}
 use Prim.Native.Nat.{ℕ, _≤_}
 use Rattle.answers.specs.Answers.{filled}
-use Rattle.answers.specs.declared.Filled.{Filled}
-use Rattle.answers.specs.declared.Filled.the-variants.{Done as FilledDone, Refused as FilledRefused}
-use Rattle.answers.specs.declared.Refusal.{Refusal}
+use Rattle.answers.specs.declared.answer.Filled.{Filled}
+use Rattle.answers.specs.declared.answer.Filled.the-variants.{Done as FilledDone, Refused as FilledRefused}
+use Rattle.answers.specs.declared.refusal.Refusal.{Refusal}
 use Rattle.utf8.specs.Reading.{readAs, Reads}
-use Rattle.utf8.specs.declared.read.Counted.{Counted}
-use Rattle.utf8.specs.declared.read.Read.{Read}
-use Rattle.utf8.specs.declared.read.Read.the-variants.{Done, Refused}
+use Rattle.utf8.specs.declared.text.Counted.{Counted}
+use Rattle.utf8.specs.declared.text.Read.{Read}
+use Rattle.utf8.specs.declared.text.Read.the-variants.{Done, Refused}
 use Rattle.mending.specs.Mending.{mended}
 use Rattle.mending.proofs.Damage.{done-few}
 use Rattle.names.specs.Naming.{Names, namedAs, ReadsName}
-use Rattle.names.specs.declared.named.Named.{Named}
-use Rattle.names.specs.declared.named.Named.the-variants.{Syllable, Refused as NamedRefused}
+use Rattle.names.specs.declared.read.Named.{Named}
+use Rattle.names.specs.declared.read.Named.the-variants.{Syllable, Refused as NamedRefused}
 use Rattle.ranking.specs.Ranking.{orderNumber, ranked, RanksBytes}
 use Rattle.ranking.specs.declared.order.Order.{Order}
 use Rattle.ranking.specs.declared.order.Ranked.{Ranked}
 use Rattle.ranking.specs.declared.order.Ranked.the-variants.{Stands, Refused as RankRefused}
-use Rattle.pulphopper_answer.specs.Refusals.{refusedAnswer}
-use Rattle.pulphopper_answer.specs.declared.Answer.{Answer}
+use Rattle.pulphopper.specs.Refusals.{refusedAnswer}
+use Rattle.pulphopper.specs.declared.answer.Answer.{Answer}
 use Rattle.pulphopper.specs.Replies.{countedAnswer, plainAnswer, orderAnswer, Mends, NamesForC, ReadsNameForC, RanksForC}
 
 module _ (text out : List ℕ) where

@@ -1,5 +1,5 @@
--- What C is told (include/pulphopper.h): a verdict in the three numbers of an answer, and the contract of each call.
--- Not here: the verdicts (crate answers), what a call makes (the crates below). Assumes nothing.
+-- What C is told (include/pulphopper.h): a verdict in the three numbers of an answer, and the
+-- contract of each call.
 use mathlib.Core.Path.{_≡_}
 use mathlib.Core.List.{List, [], _∷_}
 use Prim.Native.Nat.{ℕ}
@@ -7,15 +7,16 @@ use lib.ListN.{length}
 use Rattle.answers.specs.Checks.{inOrder, takesBytes}
 use Rattle.answers.specs.Verdicts.{Verdict, done, refused, verdict, after, fits}
 use Rattle.utf8.specs.Reading.{countedOf}
-use Rattle.utf8.specs.declared.read.Counted.{Counted}
+use Rattle.utf8.specs.declared.text.Counted.{Counted}
 use Rattle.mending.specs.Mending.{mended}
 use Rattle.names.specs.Names.{nameOf, named}
 use Rattle.names.specs.Naming.{noSyllable, noName, syllableOr}
 use Rattle.ranking.specs.Ranking.{orderNumber, rankBytes, takesTwoBytes}
 use Rattle.ranking.specs.declared.order.Order.{Order}
-use Rattle.pulphopper_answer.specs.declared.Answer.{Answer}
+use Rattle.pulphopper.specs.declared.answer.Answer.{Answer}
 
--- a verdict of a call that reads bytes: the value is a length, and the count that of the ill-formed subparts
+-- a verdict of a call that reads bytes: the value is a length, and the count that of the ill-formed
+-- subparts
 abbrev pub countedAnswer : Verdict Counted → Answer
 countedAnswer (done c) = record { refusal = 0; count = c .ills; value = c .length }
 countedAnswer (refused number place) = record { refusal = number; count = 0; value = place }

@@ -1,74 +1,9 @@
-// Pulphopper's calls for C: include/pulphopper.h declares and documents them.
-// Only the answers' form is made here; the work is that of the crates below.
-use answers::Filled;
-use names::named::Named;
-use pulphopper_answer::Answer;
-use ranking::order::Ranked;
-use utf8::read::Read;
-ghost use mathlib.Core.Path.{_≡_};
-ghost use Rattle.pulphopper.specs.Replies.{Mends, NamesForC, ReadsNameForC, RanksForC};
+// The calls for C, and nothing else: include/pulphopper.h declares and documents them.
+mod answer;
+mod calls;
 
-// Mends a text of bytes: value is the bytes written, count the ill-formed subparts.
-#[no_mangle]
-pub extern "C" fn pulphopper_mend(text: &[u8], out: &mut [u8]) -> Answer
-    ensures { λ r. ⌜ Mends (now (text .entry)) (now (out .entry)) r (now (out .exit)) ⌝ }
-{
-    let answer = mending_text::mend(text, out);
-    match answer {
-        Read::Done(counted) => Answer {
-            refusal: 0,
-            count: counted.ills as u32,
-            value: counted.length as u64,
-        },
-        Read::Refused(refusal) => pulphopper_answer::refused(refusal),
-    }
-}
-
-// Names a syllable: value is the length of the name.
-#[no_mangle]
-pub extern "C" fn pulphopper_name(code: u32, out: &mut [u8]) -> Answer
-    ensures { λ r. ⌜ NamesForC code (now (out .entry)) r (now (out .exit)) ⌝ }
-{
-    let answer = names_naming::name(code, out);
-    match answer {
-        Filled::Done(length) => Answer {
-            refusal: 0,
-            count: 0,
-            value: length as u64,
-        },
-        Filled::Refused(refusal) => pulphopper_answer::refused(refusal),
-    }
-}
-
-// Reads a name: value is the syllable.
-#[no_mangle]
-pub extern "C" fn pulphopper_read_name(name: &[u8]) -> Answer
-    ensures { λ r. ⌜ ReadsNameForC (now (name .entry)) r ⌝ }
-{
-    let answer = names_reading::read_name(name);
-    match answer {
-        Named::Syllable(code) => Answer {
-            refusal: 0,
-            count: 0,
-            value: code as u64,
-        },
-        Named::Refused(refusal) => pulphopper_answer::refused(refusal),
-    }
-}
-
-// Ranks two labels: value is 0 where the first comes before the second, 1 where they are equal, 2
-// where it comes after.
-#[no_mangle]
-pub extern "C" fn pulphopper_rank(first: &[u8], second: &[u8]) -> Answer
-    ensures { λ r. ⌜ RanksForC (now (first .entry)) (now (second .entry)) r ⌝ }
-{
-    let answer = ranking_bytes::rank(first, second);
-    match answer {
-        Ranked::Stands(order) => Answer {
-            refusal: 0,
-            count: 0,
-            value: ranking_order::number_of(order) as u64,
-        },
-        Ranked::Refused(refusal) => pulphopper_answer::refused(refusal),
-    }
-}
+pub use answer::Answer;
+pub use calls::pulphopper_mend;
+pub use calls::pulphopper_name;
+pub use calls::pulphopper_rank;
+pub use calls::pulphopper_read_name;

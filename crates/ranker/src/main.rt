@@ -1,9 +1,9 @@
-// ranker: prints the record numbers of the label file on standard input in the order of their labels
-// (document 01, 'Programs'). It reads, calls and writes; the lines are crate sorting_lines'.
+// ranker: prints the record numbers of the label file on standard input in the order of their
+// labels (document 01, 'Programs'). It reads, calls and writes; the lines are sorting::lines'.
 use answers::Refusal;
-use labels::image::Judged;
+use labels::Judged;
 
-// One byte more than an image may have, so that one over the limit is seen to be.
+// One byte more than the limit, so that an image over the limit shows.
 const IMAGE: usize = 65473;
 
 // The lines of 682 records.
@@ -18,7 +18,7 @@ fn write_front(bytes: &[u8], size: usize) -> bool {
 }
 
 fn write_refusal(refusal: Refusal) -> bool {
-    let line = answers_told::refusal_line(refusal);
+    let line = answers::refusal_line(refusal);
     io::write_all(libc::STDOUT_FILENO, &line)
 }
 
@@ -35,6 +35,6 @@ fn main() {
     let mut image = [0u8; IMAGE];
     let mut printed = [0u8; ROOM];
     let size = io::read_full(libc::STDIN_FILENO, &mut image);
-    let answer = sorting_lines::print(&image[..size], &mut printed);
+    let answer = sorting::print(&image[..size], &mut printed);
     write_answer(answer, &printed);
 }

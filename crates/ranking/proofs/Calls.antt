@@ -1,9 +1,10 @@
--- The calls. In order: the checks of two texts, of code points (`two-first-over`, `two-second-over`, `two-first-bad`, `two-second-bad`,
--- `two-passed`) and of bytes (`bytes-first`, `bytes-second`), and back (`two-short`, `two-bytes-short`); the ways in which a call returns
--- (`ranks-refused`, `ranks-stands`, `ranks-bytes-refused`, `ranks-bytes-stands`); its answers are known by their verdicts (`ranked-injective`,
--- `ranks-unique`, `ranks-bytes-unique`); RANKING UTF-8 IS RANKING WHAT MENDING READS (`two-taken`, `two-bytes-taken`, `read-filled`, `rank-reads`),
--- and mended texts stand as the texts do (`rank-mends`).
--- Not here: the rank itself (proofs/Ranks). Assumes nothing.
+-- The calls. In order: the checks of two texts, of code points (`two-first-over`,
+-- `two-second-over`, `two-first-bad`, `two-second-bad`, `two-passed`) and of bytes (`bytes-first`,
+-- `bytes-second`), and back (`two-short`, `two-bytes-short`); the ways in which a call returns
+-- (`ranks-refused`, `ranks-stands`, `ranks-bytes-refused`, `ranks-bytes-stands`); its answers are
+-- known by their verdicts (`ranked-injective`, `ranks-unique`, `ranks-bytes-unique`); RANKING UTF-8
+-- IS RANKING WHAT MENDING READS (`two-taken`, `two-bytes-taken`, `read-filled`, `rank-reads`), and
+-- mended texts stand as the texts do (`rank-mends`).
 use mathlib.Core.Path.{_≡_, sym, _∙_, ap}
 use mathlib.Core.List.{List, [], _∷_}
 use Prim.Native.Nat.{ℕ, _≤_, _<_}
@@ -11,20 +12,19 @@ use lib.ListN.{length, take}
 use Rattle.answers.specs.Checks.{Check, passes, refuses, inOrder, overLimit, firstBad, badCodePoint, takesText, takesBytes}
 use Rattle.answers.specs.Verdicts.{done}
 use Rattle.answers.specs.Answers.{checked}
-use Rattle.answers.specs.declared.Refusal.{Refusal}
-use Rattle.answers.specs.declared.Checked.{Checked}
-use Rattle.answers.specs.declared.Checked.the-variants.{Passed, Refused as CheckRefused}
+use Rattle.answers.specs.declared.refusal.Refusal.{Refusal}
+use Rattle.answers.specs.declared.answer.Checked.{Checked}
+use Rattle.answers.specs.declared.answer.Checked.the-variants.{Passed, Refused as CheckRefused}
 use Rattle.answers.proofs.Answers.{refusedBy-injective}
 use Rattle.answers.proofs.Orders.{order-first, order-rest, order-one}
-use Rattle.answers.proofs.Checks.{over-limit-refuses, over-limit-passes, over-limit-kept, bad-code-point-refuses, bad-code-point-passes}
-use Rattle.answers.proofs.Checks.{bytes-taken, bytes-short}
+use Rattle.answers.proofs.Checks.{over-limit-refuses, over-limit-passes, over-limit-kept, bad-code-point-refuses, bad-code-point-passes, bytes-taken, bytes-short}
 use Rattle.answers.proofs.Verdicts.{fills-done, fills-front}
 use Rattle.utf8.specs.Utf8.{readText}
 use Rattle.utf8.specs.Reading.{Reads}
-use Rattle.utf8.specs.declared.read.Counted.{Counted}
-use Rattle.utf8.specs.declared.read.Read.the-variants.{Done}
+use Rattle.utf8.specs.declared.text.Counted.{Counted}
+use Rattle.utf8.specs.declared.text.Read.the-variants.{Done}
 use Rattle.utf8.proofs.Reading.{read-taken}
-use Rattle.mending.specs.Mending.{mended, filled}
+use Rattle.mending.specs.Mending.{mended, filledFront}
 use Rattle.mending.proofs.Damage.{done-filled}
 use Rattle.ranking.specs.Ranking.{rank, rankBytes, takesTwo, takesTwoBytes, ranked, Ranks, RanksBytes}
 use Rattle.ranking.specs.declared.order.Order.{Order}
@@ -152,7 +152,8 @@ two-bytes-taken first second e f = rw (e, f)
 pub read-filled : {text out out′ : List ℕ} {r : Counted} → Reads readText text out (Done r) out′ → take (r .length) out′ ≡ readText text
 read-filled h = fills-front (h .fills) (ap (λ (c : Counted). c .length) (fills-done (h .fills) .1))
 
--- whatever the buffers: ranking two texts of bytes answers what ranking the code points that were read of them answers
+-- whatever the buffers: ranking two texts of bytes answers what ranking the code points that were
+-- read of them answers
 pub rank-reads : (s t : List ℕ) {o o′ p p′ : List ℕ} {r r′ : Counted} → Reads readText s o (Done r) o′ → Reads readText t p (Done r′) p′
     → {a b : Ranked} → RanksBytes s t a → Ranks (take (r .length) o′) (take (r′ .length) p′) b → a ≡ b
 unfolding rankBytes
@@ -166,7 +167,7 @@ rank-reads s t h k {a} {b} f g =
 
 -- MENDED TEXTS STAND AS THE TEXTS DO, where they are short enough to be ranked
 pub rank-mends : (s t : List ℕ) {o o′ p p′ : List ℕ} {r r′ : Counted} → Reads mended s o (Done r) o′ → Reads mended t p (Done r′) p′
-    → length (mended s) ≤ 16384 → length (mended t) ≤ 16384 → {a b : Ranked} → RanksBytes s t a → RanksBytes (filled r o′) (filled r′ p′) b → a ≡ b
+    → length (mended s) ≤ 16384 → length (mended t) ≤ 16384 → {a b : Ranked} → RanksBytes s t a → RanksBytes (filledFront r o′) (filledFront r′ p′) b → a ≡ b
 rank-mends s t h k l m {a} {b} f g =
     let e = fills-done (h .fills) .0 in
     let q = fills-done (k .fills) .0 in

@@ -1,17 +1,18 @@
--- What an arm that takes two of the three fronts tells is only which: 0 the end, 1 a digit, 2 another code point. In order: no digit (`closed-tags`); the end
--- before the other two (`end-first`), a code point behind the other two (`other-last`). Not here: the laws of a step (proofs/Steps). Assumes nothing.
+-- What an arm that takes two of the three fronts tells is only which: 0 the end, 1 a digit, 2
+-- another code point. In order: no digit (`closed-tags`); the end before the other two
+-- (`end-first`), a code point after the other two (`other-last`).
 use mathlib.Core.Logic.{inl, inr}
 use mathlib.Core.List.{[], _∷_}
 use Prim.Native.Nat.{ℕ}
 use native.Mathlib.Omega.{arith}
 use denote.Enum.Declared.{tagOf}
 use types.Run.{OneOf}
-use Rattle.ranking.specs.Steps.{doneWith, Closed, Steps}
+use Rattle.ranking.specs.Inner.{doneWith, Closed, Steps}
 use Rattle.ranking.specs.declared.order.Order.the-variants.{Before, After}
-use Rattle.ranking.specs.declared.step.Front.{Front}
-use Rattle.ranking.specs.declared.step.Front.the-variants.{End, Digit, Other}
-use Rattle.ranking.specs.declared.step.State.the-variants.{Apart}
-use Rattle.ranking.proofs.step.Front.{the-type}
+use Rattle.ranking.specs.declared.compare.Front.{Front}
+use Rattle.ranking.specs.declared.compare.Front.the-variants.{End, Digit, Other}
+use Rattle.ranking.specs.declared.compare.State.the-variants.{Apart}
+use Rattle.ranking.proofs.compare.Front.{the-type}
 use Rattle.ranking.proofs.Steps.{apart-end-digit, apart-end-other, apart-other-end, apart-other-digit}
 
 pub closed-tags : (a : Front) → OneOf (0 ∷ 2 ∷ []) (tagOf the-type a) → Closed a

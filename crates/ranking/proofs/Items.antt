@@ -1,8 +1,9 @@
--- Laws of a label's items. In order: digits (`digit-yes`, `digit-below`, `digit-above`, `digit-most`); a text by what stands in front (`run-other`,
--- `behind-other`, `items-other`, `run-digit`, `behind-digit`, `items-digit`, and where no digit does `run-ends`, `behind-ends`); a whole run and
--- then no digit (`run-whole`, `behind-whole`, `items-digits`); what digits write (`value-front`, `value-zero`, `value-less`, `value-least`,
--- `value-more`, `zero-in-front`); and THE ITEMS ARE THE RIGHT ONES AND THE ONLY ONES (`items-itemised`, `itemised-only`).
--- Not here: how items rank (proofs/Ranks). Assumes nothing.
+-- Laws of a label's items. In order: digits (`digit-yes`, `digit-below`, `digit-above`,
+-- `digit-most`); a text by what stands in front (`run-other`, `behind-other`, `items-other`,
+-- `run-digit`, `behind-digit`, `items-digit`, and where no digit does `run-ends`, `behind-ends`); a
+-- whole run and then no digit (`run-whole`, `behind-whole`, `items-digits`); what digits write
+-- (`value-front`, `value-zero`, `value-less`, `value-least`, `value-more`, `zero-in-front`); and
+-- THE ITEMS ARE THE RIGHT ONES AND THE ONLY ONES (`items-itemised`, `itemised-only`).
 use mathlib.Core.Path.{_≡_, refl, sym, _∙_, ap}
 use mathlib.Core.Bool.{Bool, true, false}
 use mathlib.Core.List.{List, [], _∷_, _++_}
@@ -13,7 +14,7 @@ use lib.ListN.{length, length-append}
 use Rattle.laws.specs.Lists.{All, none as no-more, also}
 use Rattle.laws.proofs.Bools.{test}
 use Rattle.laws.proofs.Ranges.{within-yes, within-below, within-above, within-most}
-use Rattle.ranking.specs.Items.{Item, number, character, isDigit, run, valueOf, itemsBehind, items, Ends, Itemised, none, other, digits}
+use Rattle.ranking.specs.Items.{Item, number, character, isDigit, run, digitsValue, itemsBehind, items, Ends, Itemised, none, other, digits}
 
 -- ---- digits
 
@@ -66,7 +67,7 @@ module _ (c : ℕ) (x : List ℕ) where
     unfolding itemsBehind
     behind-digit = rw digit
 
-    pub items-digit : items (c ∷ x) ≡ number (valueOf (c ∷ run x)) ∷ itemsBehind true x
+    pub items-digit : items (c ∷ x) ≡ number (digitsValue (c ∷ run x)) ∷ itemsBehind true x
     unfolding itemsBehind
     items-digit = simp (digit, run-digit)
 
@@ -90,39 +91,39 @@ module _ (x : List ℕ) (ends : Ends x) where
   behind-whole no-more = behind-ends x ends
   behind-whole (also {a = d} {x = r} h p) = behind-digit d (r ++ x) h ∙ behind-whole p
 
-  pub items-digits : (d : ℕ) (r : List ℕ) → All (λ c. isDigit c ≡ true) (d ∷ r) → items (d ∷ r ++ x) ≡ number (valueOf (d ∷ r)) ∷ items x
+  pub items-digits : (d : ℕ) (r : List ℕ) → All (λ c. isDigit c ≡ true) (d ∷ r) → items (d ∷ r ++ x) ≡ number (digitsValue (d ∷ r)) ∷ items x
   items-digits d r (also h p) = items-digit d (r ++ x) h ∙ rw (run-whole p, behind-whole p)
 
 -- ---- what digits write
 
-pub value-none : valueOf [] ≡ 0
-unfolding valueOf
+pub value-none : digitsValue [] ≡ 0
+unfolding digitsValue
 value-none = refl
 
-pub value-front : (d : ℕ) (x : List ℕ) → valueOf (d ∷ x) ≡ (d - 0x30) * 10 ^ length x + valueOf x
-unfolding valueOf
+pub value-front : (d : ℕ) (x : List ℕ) → digitsValue (d ∷ x) ≡ (d - 0x30) * 10 ^ length x + digitsValue x
+unfolding digitsValue
 value-front d x = refl
 
 -- a zero in front adds nothing
-pub value-zero : (d : ℕ) (x : List ℕ) → d - 0x30 ≡ 0 → valueOf (d ∷ x) ≡ valueOf x
+pub value-zero : (d : ℕ) (x : List ℕ) → d - 0x30 ≡ 0 → digitsValue (d ∷ x) ≡ digitsValue x
 value-zero d x e =
     let z : (d - 0x30) * 10 ^ length x ≡ 0 = ap (λ (n : ℕ). n * 10 ^ length x) e ∙ zero-mul (10 ^ length x) in
     omega (arith, value-front d x, z)
 
 -- it is below ten to the number of its digits, and where the first one is not zero it has that many
-pub value-less : {x : List ℕ} → All (λ c. isDigit c ≡ true) x → valueOf x < 10 ^ length x
+pub value-less : {x : List ℕ} → All (λ c. isDigit c ≡ true) x → digitsValue x < 10 ^ length x
 value-less no-more = omega (arith, value-none, pow-zero 10)
 value-less (also {a = d} {x = x} h p) =
     let few : d - 0x30 ≤ 9 = omega (arith, digit-most d h) in
     omega (arith, value-front d x, value-less p, pow-suc 10 (length x), mul-le-mul-right (10 ^ length x) few)
 
-pub value-least : (d : ℕ) (x : List ℕ) → (d - 0x30 ≡ 0 → ⊥) → 10 ^ length x ≤ valueOf (d ∷ x)
+pub value-least : (d : ℕ) (x : List ℕ) → (d - 0x30 ≡ 0 → ⊥) → 10 ^ length x ≤ digitsValue (d ∷ x)
 value-least d x n =
     let some : 1 ≤ d - 0x30 = omega (arith, n) in
     omega (arith, value-front d x, mul-le-mul-right (10 ^ length x) some)
 
 -- READ FROM THE LEFT it is ten times what was read, and the next digit
-pub value-more : (x : List ℕ) (d : ℕ) → valueOf (x ++ (d ∷ [])) ≡ valueOf x * 10 + (d - 0x30)
+pub value-more : (x : List ℕ) (d : ℕ) → digitsValue (x ++ (d ∷ [])) ≡ digitsValue x * 10 + (d - 0x30)
 value-more [] d = omega (arith, value-front d [], value-none, pow-zero 10)
 value-more (e ∷ x) d =
     let size : length (x ++ (d ∷ [])) ≡ suc (length x) = length-append x (d ∷ []) ∙ omega arith in
@@ -139,7 +140,7 @@ zero-in-front d x h =
 
 -- ---- THE ITEMS
 
--- what stands behind the run in front, and that both are right
+-- what stands after the run in front, and that both are right
 record Right (x : List ℕ) : Type 0 where
   right : Itemised x (items x)
   rest : List ℕ
@@ -188,4 +189,4 @@ pub itemised-only : {x : List ℕ} {i : List Item} → Itemised x i → i ≡ it
 itemised-only none = sym (behind-none false)
 itemised-only (other c {x} {i} h p) = ap (λ (l : List Item). character c ∷ l) (itemised-only p) ∙ sym (items-other c x h)
 itemised-only (digits d r {x} {i} h e p) =
-    ap (λ (l : List Item). number (valueOf (d ∷ r)) ∷ l) (itemised-only p) ∙ sym (items-digits x e d r h)
+    ap (λ (l : List Item). number (digitsValue (d ∷ r)) ∷ l) (itemised-only p) ∙ sym (items-digits x e d r h)

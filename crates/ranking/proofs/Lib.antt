@@ -1,5 +1,5 @@
--- Crate ranking, proofs/: the laws of orders, of items, of the rank, of the steps, of what an arm for several fronts tells, of texts, and of the calls.
--- Not here: the definitions (specs/), and any function.
+-- The laws of crate ranking. What a caller may cite is `pub mod`; functions' proofs have folders of
+-- their own.
 pub mod Orders
 pub mod Items
 pub mod Ranks

@@ -1,8 +1,10 @@
--- Laws of the three answers. In order: they differ; two numbers by value, from the orders (`value-before`, `value-after`, `value-equal`) and by
--- cases (`by-order`); THE ONE ANSWER THAT IS TRUE OF THEM (`by-value-says`, `says-by-value`, `equal-value`), `by-value-self`, `by-value-swapped`;
--- one comparison and then the next (`then-assoc`, `then-equal`, `swapped-then`, `then-equal-first`, `then-equal-next`); three things compared two by
--- two (`Chain`, `chain-value`, `chain-then`), and what that says (`chain-most`, `chain-before`, `chain-equal-first`, `chain-equal-next`).
--- Not here: what is compared (proofs/Ranks). Assumes nothing.
+-- Laws of the three answers. In order: they differ; two numbers by value, from the orders
+-- (`value-before`, `value-after`, `value-equal`) and by cases (`by-order`); THE ONE ANSWER THAT IS
+-- TRUE OF THEM (`by-value-says`, `says-by-value`, `equal-value`), `by-value-self`,
+-- `by-value-swapped`; one comparison and then the next (`then-assoc`, `then-equal`, `swapped-then`,
+-- `then-equal-first`, `then-equal-next`); three things compared two by two (`Chain`, `chain-value`,
+-- `chain-then`), and what that says (`chain-most`, `chain-before`, `chain-equal-first`,
+-- `chain-equal-next`).
 use mathlib.Core.Path.{_≡_, refl, sym, _∙_, ap}
 use Prim.Native.Nat.{ℕ, _<_}
 use native.Mathlib.Omega.{arith}

@@ -1,10 +1,12 @@
--- THE RANK ORDERS LABELS: every two are comparable, and in one way; and texts that join to the same, or are mended to the same, stand together.
+-- THE RANK ORDERS LABELS: every two are comparable, and in one way; and texts that join to the
+-- same, or are mended to the same, stand together.
 --
--- In order: of items (`items-self`, `items-swapped`, `items-chain`, `items-equal`); of texts of code points (`rank-self`, `rank-swapped`,
--- `rank-total`, `rank-transitive`, `before-transitive`, `equal-items`, `equal-alike`, `equal-alike-right`); the joined text alone counts
--- (`same-joined-equal`, `same-joined-alike`, `rank-joined`); numbers by value (`rank-numbers`, `leading-zero`, `seven`, `ten-after-two`); of texts
--- of bytes (`bytes-self`, `bytes-swapped`, `bytes-chain`, `same-mended-equal`, `same-mended-alike`, `rank-mended`).
--- Not here: the items of a text (proofs/Items), the calls (proofs/Calls). Assumes nothing.
+-- In order: of items (`items-self`, `items-swapped`, `items-chain`, `items-equal`); of texts of
+-- code points (`rank-self`, `rank-swapped`, `rank-total`, `rank-transitive`, `before-transitive`,
+-- `equal-items`, `equal-alike`, `equal-alike-right`); the joined text alone counts
+-- (`same-joined-equal`, `same-joined-alike`, `rank-joined`); numbers by value (`rank-numbers`,
+-- `leading-zero`, `seven`, `ten-after-two`); of texts of bytes (`bytes-self`, `bytes-swapped`,
+-- `bytes-chain`, `same-mended-equal`, `same-mended-alike`, `rank-mended`).
 use mathlib.Core.Path.{_≡_, refl, sym, _∙_, ap}
 use mathlib.Core.Bool.{true, false}
 use mathlib.Core.Logic.{_⊎_, inl, inr, _↔_}
@@ -19,15 +21,11 @@ use Rattle.joining.proofs.Joins.{join-closed, join-join}
 use Rattle.utf8.specs.Utf8.{readText}
 use Rattle.mending.specs.Mending.{mended}
 use Rattle.mending.proofs.Round.{mended-read}
-use Rattle.ranking.specs.Items.{Item, number, character, isDigit, valueOf, items}
+use Rattle.ranking.specs.Items.{Item, number, character, isDigit, digitsValue, items}
 use Rattle.ranking.specs.Ranking.{byValue, swapped, thenBy, rankItem, rankItems, rank, rankBytes, AtMost}
 use Rattle.ranking.specs.declared.order.Order.{Order}
 use Rattle.ranking.specs.declared.order.Order.the-variants.{Before, Equal, After}
-use Rattle.ranking.proofs.Orders.{before-not-equal, before-not-after, after-not-equal, value-after, equal-value, by-value-self}
-use Rattle.ranking.proofs.Orders.{by-value-swapped}
-use Rattle.ranking.proofs.Orders.{then-equal, swapped-then, then-equal-first, then-equal-next, Chain, chain-value, chain-then, chain-most}
-use Rattle.ranking.proofs.Orders.{chain-before}
-use Rattle.ranking.proofs.Orders.{chain-before-any, chain-after-any, chain-any-before, chain-any-after, chain-equal-first, chain-equal-next}
+use Rattle.ranking.proofs.Orders.{before-not-equal, before-not-after, after-not-equal, value-after, equal-value, by-value-self, by-value-swapped, then-equal, swapped-then, then-equal-first, then-equal-next, Chain, chain-value, chain-then, chain-most, chain-before, chain-before-any, chain-after-any, chain-any-before, chain-any-after, chain-equal-first, chain-equal-next}
 use Rattle.ranking.proofs.Items.{digit-yes, digit-most, behind-none, items-digits, value-none, value-front, zero-in-front}
 
 -- ---- of items
@@ -94,7 +92,8 @@ pub rank-self : (x : List ℕ) → rank x x ≡ Equal
 unfolding rank
 rank-self x = items-self (items (join x))
 
--- ONE ANSWER TELLS BOTH WAYS: the second stands behind the first exactly where the first stands before the second
+-- ONE ANSWER TELLS BOTH WAYS: the second stands after the first exactly where the first stands
+-- before the second
 pub rank-swapped : (x y : List ℕ) → rank y x ≡ swapped (rank x y)
 unfolding rank
 rank-swapped x y = items-swapped (items (join x)) (items (join y))
@@ -136,7 +135,8 @@ module _ (x y : List ℕ) (equal : rank x y ≡ Equal) (z : List ℕ) where
 
 -- ---- the joined text alone counts
 
--- texts that join to the same are equal, and stand alike to every third: the two spellings of one boat stand together
+-- texts that join to the same are equal, and stand alike to every third: the two spellings of one
+-- boat stand together
 pub same-joined-equal : (x y : List ℕ) → join x ≡ join y → rank x y ≡ Equal
 unfolding rank
 same-joined-equal x y e = rw e (items-self (items (join y)))
@@ -150,7 +150,7 @@ rank-joined x y = rw (join-join x, join-join y)
 
 -- ---- numbers
 
--- a digit joins with nothing behind it
+-- a digit joins with nothing after it
 join-digit : (d : ℕ) (x : List ℕ) → isDigit d ≡ true → join (d ∷ x) ≡ d ∷ join x
 join-digit d x h =
     join-closed d x (λ b. pair-none d b (role-between 0 0x10FF d tt (omega arith) (omega (arith, digit-most d h))))
@@ -161,13 +161,13 @@ join-digits (also {a = d} {x = x} h p) = join-digit d x h ∙ ap (λ (l : List �
 
 -- NUMBERS STAND BY VALUE, however long
 pub rank-numbers : (d : ℕ) (x : List ℕ) (e : ℕ) (y : List ℕ) → All (λ c. isDigit c ≡ true) (d ∷ x) → All (λ c. isDigit c ≡ true) (e ∷ y)
-    → rank (d ∷ x) (e ∷ y) ≡ byValue (valueOf (d ∷ x)) (valueOf (e ∷ y))
+    → rank (d ∷ x) (e ∷ y) ≡ byValue (digitsValue (d ∷ x)) (digitsValue (e ∷ y))
 unfolding rank
 rank-numbers d x e y p q =
     rw (join-digits p, join-digits q, digits-alone d x p, digits-alone e y q)
-    (then-equal (byValue (valueOf (d ∷ x)) (valueOf (e ∷ y))))
+    (then-equal (byValue (digitsValue (d ∷ x)) (digitsValue (e ∷ y))))
   where
-    digits-alone : (d : ℕ) (x : List ℕ) → All (λ c. isDigit c ≡ true) (d ∷ x) → items (d ∷ x) ≡ number (valueOf (d ∷ x)) ∷ []
+    digits-alone : (d : ℕ) (x : List ℕ) → All (λ c. isDigit c ≡ true) (d ∷ x) → items (d ∷ x) ≡ number (digitsValue (d ∷ x)) ∷ []
     digits-alone d x p = ap items (sym (append-nil (d ∷ x))) ∙ items-digits [] tt d x p ∙ rw (behind-none false)
 
 -- zeros in front of a number count nothing
@@ -181,13 +181,13 @@ leading-zero d x h =
 pub seven : rank (0x30 ∷ 0x37 ∷ []) (0x37 ∷ []) ≡ Equal
 seven = leading-zero 0x37 [] (digit-yes 0x37 (omega arith) (omega arith))
 
--- 10 stands behind 2
+-- 10 stands after 2
 pub ten-after-two : rank (0x31 ∷ 0x30 ∷ []) (0x32 ∷ []) ≡ After
 ten-after-two =
     rank-numbers 0x31 (0x30 ∷ []) 0x32 []
     (also (digit-yes 0x31 (omega arith) (omega arith)) (also (digit-yes 0x30 (omega arith) (omega arith)) none))
     (also (digit-yes 0x32 (omega arith) (omega arith)) none)
-    ∙ value-after (valueOf (0x31 ∷ 0x30 ∷ [])) (valueOf (0x32 ∷ []))
+    ∙ value-after (digitsValue (0x31 ∷ 0x30 ∷ [])) (digitsValue (0x32 ∷ []))
     (omega (arith, value-front 0x31 (0x30 ∷ []), value-front 0x30 [], value-front 0x32 [], value-none))
 
 -- ---- of texts of bytes

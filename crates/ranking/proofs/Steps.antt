@@ -1,8 +1,9 @@
--- Laws of one step. In order: what stands in front, as a view of the text (`View`); numbers that are open: the longer one is the greater
--- (`longer-less`), of two as long the first digits that differ decide (`sum-value`, `number-digits`), zeros in front pass (`zero-value`,
--- `zero-behind`), and numbers that have ended (`number-ended`); what a step answers (`steps-done`, `steps-both`, `steps-as`, `moves`, `moves-from`);
--- then a section for each function of src/step that decides something.
--- Not here: where characters begin in a text (proofs/Texts). Assumes nothing.
+-- Laws of one step. In order: what stands in front, as a view of the text (`View`); numbers that
+-- are open: the longer one is the greater (`longer-less`), of two as long the first digits that
+-- differ decide (`sum-value`, `number-digits`), zeros in front pass (`zero-value`, `zero-behind`),
+-- and numbers that have ended (`number-ended`); what a step answers (`steps-done`, `steps-both`,
+-- `steps-as`, `moves`, `moves-from`); then a section for each function of src/step that decides
+-- something.
 use mathlib.Core.Path.{_≡_, refl, sym, _∙_, ap}
 use mathlib.Core.Bool.{true, false, false≢true}
 use mathlib.Core.Logic.{inl, inr}
@@ -14,19 +15,18 @@ use lib.ListN.{length}
 use borrow.Author.Tests.{eq-eqb, ne-eqb, eqb-true, eqb-false}
 use Rattle.laws.specs.Lists.{All, none, also}
 use Rattle.laws.proofs.Bools.{test}
-use Rattle.ranking.specs.Items.{isDigit, run, valueOf, itemsBehind, items}
+use Rattle.ranking.specs.Items.{isDigit, run, digitsValue, itemsBehind, items}
 use Rattle.ranking.specs.Ranking.{byValue, thenBy, rankItems}
-use Rattle.ranking.specs.Steps.{frontOf, behind, rankFrom, goesOnAs, isZeroAs, doneWith, bothWith, zeroWith, Closed, Steps}
+use Rattle.ranking.specs.Inner.{frontOf, textAfter, rankFrom, goesOnAs, isZeroAs, doneWith, bothWith, zeroWith, Closed, Steps}
 use Rattle.ranking.specs.declared.order.Order.{Order}
 use Rattle.ranking.specs.declared.order.Order.the-variants.{Before, Equal, After}
-use Rattle.ranking.specs.declared.step.Front.{Front}
-use Rattle.ranking.specs.declared.step.Front.the-variants.{End, Digit, Other}
-use Rattle.ranking.specs.declared.step.State.{State}
-use Rattle.ranking.specs.declared.step.State.the-variants.{Apart, Zeros, Number, Done}
-use Rattle.ranking.specs.declared.step.Move.{Move}
+use Rattle.ranking.specs.declared.compare.Front.{Front}
+use Rattle.ranking.specs.declared.compare.Front.the-variants.{End, Digit, Other}
+use Rattle.ranking.specs.declared.compare.State.{State}
+use Rattle.ranking.specs.declared.compare.State.the-variants.{Apart, Zeros, Number, Done}
+use Rattle.ranking.specs.declared.compare.Move.{Move}
 use Rattle.ranking.proofs.Orders.{value-before, value-equal, value-after, by-order, by-value-self, then-assoc, then-equal}
-use Rattle.ranking.proofs.Items.{run-none, behind-none, run-other, behind-other, items-other, run-digit, behind-digit, items-digit}
-use Rattle.ranking.proofs.Items.{value-front, value-zero, value-less, value-least}
+use Rattle.ranking.proofs.Items.{run-none, behind-none, run-other, behind-other, items-other, run-digit, behind-digit, items-digit, value-front, value-zero, value-less, value-least}
 
 -- ---- what stands in front
 
@@ -48,7 +48,7 @@ run-all : (x : List ℕ) → All (λ c. isDigit c ≡ true) (run x)
 run-all [] = rw run-none none
 run-all (c ∷ x) = test (isDigit c) (λ h. rw (run-digit c x h) (also h (run-all x))) (λ h. rw (run-other c x h) none)
 
-run-less : (x : List ℕ) → valueOf (run x) < 10 ^ length (run x)
+run-less : (x : List ℕ) → digitsValue (run x) < 10 ^ length (run x)
 run-less x = value-less (run-all x)
 
 -- no zero stands in front of the digits: there are none, or the first is not zero
@@ -56,24 +56,24 @@ abbrev Stout : Front → Type 0
 Stout a = isZeroAs a ≡ false
 
 -- THE LONGER NUMBER IS THE GREATER
-longer-less : {a : Front} (x : List ℕ) {y : List ℕ} → View y a → Stout a → length (run x) < length (run y) → valueOf (run x) < valueOf (run y)
+longer-less : {a : Front} (x : List ℕ) {y : List ℕ} → View y a → Stout a → length (run x) < length (run y) → digitsValue (run x) < digitsValue (run y)
 longer-less x at-end s h = absurd (omega (arith, ap length run-none))
 longer-less x (at-other c y p) s h = absurd (omega (arith, ap length (run-other c y p)))
 longer-less x (at-digit d y p) s h =
     let e = run-digit d y p in
     let n : d - 0x30 ≡ 0 → ⊥ = eqb-false (d - 0x30) 0 s in
     let l : length (run x) ≤ length (run y) = omega (arith, ap length e) in
-    omega (arith, run-less x, pow-le-pow-right {n = 10} (omega arith) l, value-least d (run y) n, ap valueOf e)
+    omega (arith, run-less x, pow-le-pow-right {n = 10} (omega arith) l, value-least d (run y) n, ap digitsValue e)
 
 -- so of two that begin with no zero, the lengths may be compared first
 longest-first : {a b : Front} {x y : List ℕ} (o : Order) → View x a → View y b → Stout a → Stout b
-    → thenBy (byValue (valueOf (run x)) (valueOf (run y))) o
-    ≡ thenBy (byValue (length (run x)) (length (run y))) (thenBy (byValue (valueOf (run x)) (valueOf (run y))) o)
+    → thenBy (byValue (digitsValue (run x)) (digitsValue (run y))) o
+    ≡ thenBy (byValue (length (run x)) (length (run y))) (thenBy (byValue (digitsValue (run x)) (digitsValue (run y))) o)
 longest-first {x = x} {y = y} o v w s t =
     by-order (length (run x)) (length (run y))
-    (λ h. rw (value-before (length (run x)) (length (run y)) h, value-before (valueOf (run x)) (valueOf (run y)) (longer-less x w t h)))
+    (λ h. rw (value-before (length (run x)) (length (run y)) h, value-before (digitsValue (run x)) (digitsValue (run y)) (longer-less x w t h)))
     (λ h. rw (value-equal (length (run x)) (length (run y)) h))
-    (λ h. rw (value-after (length (run x)) (length (run y)) h, value-after (valueOf (run x)) (valueOf (run y)) (longer-less y v s h)))
+    (λ h. rw (value-after (length (run x)) (length (run y)) h, value-after (digitsValue (run x)) (digitsValue (run y)) (longer-less y v s h)))
 
 zeros-number : {a b : Front} {x y : List ℕ} → View x a → View y b → Stout a → Stout b → rankFrom Zeros x y ≡ rankFrom (Number Equal) x y
 zeros-number v w s t = longest-first _ v w s t
@@ -92,24 +92,24 @@ sum-value a b p v w h k =
     (λ m. rw (value-after v w m) (value-after (b * p + v) (b * p + w) (omega arith))))))
     (λ l. rw (value-after a b l) (value-after (a * p + v) (b * p + w) (sum-less b a p w v l k)))
 
-open-digits : (o : Order) (d e : ℕ) (r q : List ℕ) (rest : Order) → valueOf r < 10 ^ length r → valueOf q < 10 ^ length q
-    → thenBy (byValue (suc (length r)) (suc (length q))) (thenBy o (thenBy (byValue (valueOf (d ∷ r)) (valueOf (e ∷ q))) rest))
-    ≡ thenBy (byValue (length r) (length q)) (thenBy (thenBy o (byValue (d - 0x30) (e - 0x30))) (thenBy (byValue (valueOf r) (valueOf q)) rest))
+open-digits : (o : Order) (d e : ℕ) (r q : List ℕ) (rest : Order) → digitsValue r < 10 ^ length r → digitsValue q < 10 ^ length q
+    → thenBy (byValue (suc (length r)) (suc (length q))) (thenBy o (thenBy (byValue (digitsValue (d ∷ r)) (digitsValue (e ∷ q))) rest))
+    ≡ thenBy (byValue (length r) (length q)) (thenBy (thenBy o (byValue (d - 0x30) (e - 0x30))) (thenBy (byValue (digitsValue r) (digitsValue q)) rest))
 open-digits o d e r q rest h k =
     by-order (length r) (length q)
     (λ l. rw (value-before (length r) (length q) l, value-before (suc (length r)) (suc (length q)) (omega arith)))
     (λ l.
     let a = byValue (d - 0x30) (e - 0x30) in
-    let b = byValue (valueOf r) (valueOf q) in
+    let b = byValue (digitsValue r) (digitsValue q) in
     let p : 10 ^ length q ≡ 10 ^ length r = ap (λ (n : ℕ). 10 ^ n) (sym l) in
-    let v : byValue (valueOf (d ∷ r)) (valueOf (e ∷ q)) ≡ thenBy a b =
-    rw (value-front d r, value-front e q, p) (sum-value (d - 0x30) (e - 0x30) (10 ^ length r) (valueOf r) (valueOf q) h (rw p at k)) in
+    let v : byValue (digitsValue (d ∷ r)) (digitsValue (e ∷ q)) ≡ thenBy a b =
+    rw (value-front d r, value-front e q, p) (sum-value (d - 0x30) (e - 0x30) (10 ^ length r) (digitsValue r) (digitsValue q) h (rw p at k)) in
     rw (value-equal (length r) (length q) l, value-equal (suc (length r)) (suc (length q)) (omega arith), v)
     (ap (thenBy o) (then-assoc a b rest) ∙ sym (then-assoc o a (thenBy b rest))))
     (λ l. rw (value-after (length r) (length q) l, value-after (suc (length r)) (suc (length q)) (omega arith)))
 
 number-digits : (o : Order) {a b : ℕ} {x y : List ℕ} → View x (Digit a) → View y (Digit b)
-    → rankFrom (Number o) x y ≡ rankFrom (Number (thenBy o (byValue a b))) (behind x) (behind y)
+    → rankFrom (Number o) x y ≡ rankFrom (Number (thenBy o (byValue a b))) (textAfter x) (textAfter y)
 number-digits o (at-digit d x h) (at-digit e y k) =
     rw (run-digit d x h, run-digit e y k, behind-digit d x h, behind-digit e y k)
     (open-digits o d e (run x) (run y) (rankItems (itemsBehind true x) (itemsBehind true y)) (run-less x) (run-less y))
@@ -120,12 +120,12 @@ apart-zeros (at-digit d x h) (at-digit e y k) =
     rw (items-digit d x h, items-digit e y k, run-digit d x h, run-digit e y k, behind-digit d x h, behind-digit e y k)
 
 -- a zero in front passes
-zero-value : {a : Front} {x : List ℕ} → View x a → isZeroAs a ≡ true → valueOf (run x) ≡ valueOf (run (behind x))
+zero-value : {a : Front} {x : List ℕ} → View x a → isZeroAs a ≡ true → digitsValue (run x) ≡ digitsValue (run (textAfter x))
 zero-value at-end z = absurd (false≢true z)
 zero-value (at-other c x h) z = absurd (false≢true z)
 zero-value (at-digit d x h) z = rw (run-digit d x h) (value-zero d (run x) (eqb-true (d - 0x30) 0 z))
 
-zero-behind : {a : Front} {x : List ℕ} → View x a → isZeroAs a ≡ true → itemsBehind true x ≡ itemsBehind true (behind x)
+zero-behind : {a : Front} {x : List ℕ} → View x a → isZeroAs a ≡ true → itemsBehind true x ≡ itemsBehind true (textAfter x)
 zero-behind at-end z = absurd (false≢true z)
 zero-behind (at-other c x h) z = absurd (false≢true z)
 zero-behind (at-digit d x h) z = behind-digit d x h
@@ -144,7 +144,7 @@ closed-behind (at-other c x h) s = behind-other c x h true ∙ sym (items-other 
 number-ended : (o : Order) {a b : Front} {x y : List ℕ} → View x a → View y b → Closed a → Closed b
     → rankFrom (Number o) x y ≡ thenBy o (rankFrom Apart x y)
 number-ended o v w s t =
-    rw (closed-run v s, closed-run w t, closed-behind v s, closed-behind w t, by-value-self 0, by-value-self (valueOf []))
+    rw (closed-run v s, closed-run w t, closed-behind v s, closed-behind w t, by-value-self 0, by-value-self (digitsValue []))
 
 -- ---- what a step answers
 
@@ -155,7 +155,7 @@ steps-done : {s : State} {a b : Front} (o : Order) → ((x y : List ℕ) → Vie
 steps-done o h = record { ranks = λ x y e f. h x y (view-of x e) (view-of y f); on = no-more-steps o }
 
 steps-both : {s : State} {a b : Front} (t : State) → (a ≡ End → ⊥)
-    → ((x y : List ℕ) → View x a → View y b → rankFrom s x y ≡ rankFrom t (behind x) (behind y)) → Steps s a b (bothWith t)
+    → ((x y : List ℕ) → View x a → View y b → rankFrom s x y ≡ rankFrom t (textAfter x) (textAfter y)) → Steps s a b (bothWith t)
 steps-both t n h = record { ranks = λ x y e f. h x y (view-of x e) (view-of y f); on = λ e. inl (refl, n) }
 
 steps-as : {s t : State} {a b : Front} {r : Move} → ((x y : List ℕ) → View x a → View y b → rankFrom s x y ≡ rankFrom t x y) → Steps t a b r
@@ -172,7 +172,7 @@ moves-from e g h = rw (e, g) h
 -- ---- others: two code points that are no digits
 
 others-rank : {a b : ℕ} {x y : List ℕ} → View x (Other a) → View y (Other b)
-    → rankFrom Apart x y ≡ thenBy (byValue a b) (rankFrom Apart (behind x) (behind y))
+    → rankFrom Apart x y ≡ thenBy (byValue a b) (rankFrom Apart (textAfter x) (textAfter y))
 others-rank (at-other c x h) (at-other d y k) = rw (items-other c x h, items-other d y k)
 
 other-not-end : (c : ℕ) → Other c ≡ End → ⊥
@@ -193,10 +193,10 @@ module _ (a b : ℕ) {o : Order} (compared : o ≡ byValue a b) {r : Move} where
 
 -- ---- zeros: of both numbers only zeros have passed
 
-first-zero-rank : {a : Front} {x : List ℕ} (y : List ℕ) → View x a → isZeroAs a ≡ true → rankFrom Zeros x y ≡ rankFrom Zeros (behind x) y
+first-zero-rank : {a : Front} {x : List ℕ} (y : List ℕ) → View x a → isZeroAs a ≡ true → rankFrom Zeros x y ≡ rankFrom Zeros (textAfter x) y
 first-zero-rank y v z = rw (zero-value v z, zero-behind v z)
 
-second-zero-rank : {b : Front} (x : List ℕ) {y : List ℕ} → View y b → isZeroAs b ≡ true → rankFrom Zeros x y ≡ rankFrom Zeros x (behind y)
+second-zero-rank : {b : Front} (x : List ℕ) {y : List ℕ} → View y b → isZeroAs b ≡ true → rankFrom Zeros x y ≡ rankFrom Zeros x (textAfter y)
 second-zero-rank x w z = rw (zero-value w z, zero-behind w z)
 
 zero-not-end : (a : Front) → isZeroAs a ≡ true → a ≡ End → ⊥
@@ -322,7 +322,7 @@ pub settled-apart : Equal ≡ rankFrom Apart [] []
 settled-apart = rw (behind-none false)
 
 pub settled-zeros : Equal ≡ rankFrom Zeros [] []
-settled-zeros = rw (run-none, behind-none true, by-value-self (valueOf []))
+settled-zeros = rw (run-none, behind-none true, by-value-self (digitsValue []))
 
 pub settled-number : (o : Order) → o ≡ rankFrom (Number o) [] []
-settled-number o = rw (run-none, behind-none true, by-value-self 0, by-value-self (valueOf [])) (sym (then-equal o))
+settled-number o = rw (run-none, behind-none true, by-value-self 0, by-value-self (digitsValue [])) (sym (then-equal o))

@@ -1,14 +1,15 @@
--- How far ranking has come in two texts. In order: a character as a front (`next-end`, `next-digit`, `next-below`, `next-above`); where characters
--- begin, over any way to read a text (`begins-end`, `begins-front`), in a text of code points (`code-end`, `code-alone`, `code-two`, `code-three`)
--- and of bytes (`byte-begins`); one step (`advances`, `fits`, `follows-none`, `follows-on`, `advanced-on`, `follows-reached`); the
--- loops (`measureOf`, `start`, `less`, `rank-found`, `rank-bytes-found`); bytes that are alike (`plain-below` and so on, `alike-at`, `alike-none`,
--- `alike-more`, `alike-follows`).
--- Not here: what a step answers (proofs/Steps), the calls (proofs/Calls). Assumes nothing.
+-- How far ranking has come in two texts. In order: a character as a front (`next-end`,
+-- `next-digit`, `next-below`, `next-above`); where characters begin, over any way to read a text
+-- (`begins-end`, `begins-front`), in a text of code points (`code-end`, `code-alone`, `code-two`,
+-- `code-three`) and of bytes (`byte-begins`); one step (`first-adds`, `second-adds`, `advances`,
+-- `fits`, `follows-none`, `follows-on`, `advanced-on`, `follows-reached`); the loops (`measureOf`,
+-- `start`, `less`, `rank-found`, `rank-bytes-found`); bytes that are alike (`plain-below` and so
+-- on, `alike-at`, `alike-none`, `alike-more`, `alike-follows`).
 use mathlib.Core.Path.{_≡_, refl, sym, _∙_, ap}
 use mathlib.Core.Bool.{Bool, true, false, cond, not, false≢true}
 use mathlib.Core.Logic.{_⊎_, inl, inr}
 use mathlib.Core.List.{List, [], _∷_, _++_, append-assoc}
-use Prim.Native.Nat.{ℕ, suc, _+_, _-_, _%_, _^_, _≤_, _<_}
+use Prim.Native.Nat.{ℕ, suc, _+_, _-_, _≤_, _<_}
 use native.Mathlib.Nat.{add-zero}
 use native.Mathlib.Omega.{arith}
 use lib.Dec.{ltb, eqb}
@@ -26,24 +27,23 @@ use Rattle.joining.specs.Joining.{join}
 use Rattle.joining.proofs.Joins.{join-one, join-apart, join-joined, join-closed}
 use Rattle.utf8.specs.Table37.{kindOf}
 use Rattle.utf8.specs.Reading.{goodOf}
-use Rattle.utf8.specs.declared.read.Taken.{Taken}
+use Rattle.utf8.specs.declared.decode.Taken.{Taken}
 use Rattle.utf8.proofs.Rows.{row-between}
 use Rattle.utf8.proofs.Forms.{ends, full-by}
 use Rattle.utf8.proofs.Takes.{test-true, test-false}
-use Rattle.utf8_round.proofs.Round.{full-piece}
+use Rattle.utf8.proofs.Round.{full-piece}
 use Rattle.mending.specs.Characters.{characterFrom}
 use Rattle.mending.proofs.Characters.{apart-end, stops, Character, character-next}
 use Rattle.ranking.specs.Items.{isDigit}
 use Rattle.ranking.specs.Ranking.{rank, rankBytes}
-use Rattle.ranking.specs.Steps.{behind, nextOf, rankFrom, goesOnAs, isApartAs, Passed, Steps, joinedFrom, mendedFrom}
-use Rattle.ranking.specs.Steps.{Begins, Reached, Follows, Advanced, Fits, Advances, isPlain, Alike, AlikeAt}
+use Rattle.ranking.specs.Inner.{textAfter, nextOf, rankFrom, goesOnAs, isApartAs, Passed, Steps, joinedFrom, mendedFrom, NextBegins, Reached, Follows, Advanced, WithinLimit, Advances, isPlain, Alike, AlikeAt}
 use Rattle.ranking.specs.declared.order.Order.{Order}
-use Rattle.ranking.specs.declared.step.Front.the-variants.{End, Digit, Other}
-use Rattle.ranking.specs.declared.step.Next.{Next}
-use Rattle.ranking.specs.declared.step.State.{State}
-use Rattle.ranking.specs.declared.step.State.the-variants.{Apart, Zeros, Number, Done}
-use Rattle.ranking.specs.declared.step.Move.{Move}
-use Rattle.ranking.specs.declared.step.At.{At}
+use Rattle.ranking.specs.declared.compare.Front.the-variants.{End, Digit, Other}
+use Rattle.ranking.specs.declared.compare.Next.{Next}
+use Rattle.ranking.specs.declared.compare.State.{State}
+use Rattle.ranking.specs.declared.compare.State.the-variants.{Apart, Zeros, Number, Done}
+use Rattle.ranking.specs.declared.compare.Move.{Move}
+use Rattle.ranking.specs.declared.compare.At.{At}
 use Rattle.ranking.proofs.Orders.{by-value-self}
 use Rattle.ranking.proofs.Items.{digit-yes, digit-below, digit-above, items-other}
 
@@ -69,19 +69,19 @@ module _ (code size : ℕ) where
 -- ---- where characters begin
 
 module _ (from : List ℕ → ℕ → List ℕ) (text : List ℕ) (at : ℕ) where
-  pub begins-end : (code : ℕ) → from text at ≡ [] → at ≤ length text → Begins from text at (nextOf code 0)
+  pub begins-end : (code : ℕ) → from text at ≡ [] → at ≤ length text → NextBegins from text at (nextOf code 0)
   unfolding nextOf
   begins-end code e h =
       record { front = rw e; behind-it = rw (add-zero at, e); inside = omega arith; more = λ n. absurd (n refl) }
 
   pub begins-front : (code size : ℕ) → from text at ≡ code ∷ from text (at + size) → 1 ≤ size → at + size ≤ length text
-      → Begins from text at (nextOf code size)
+      → NextBegins from text at (nextOf code size)
   unfolding nextOf
   begins-front code size e m h =
       let n : eqb size 0 ≡ false = ne-eqb size 0 (λ z. omega arith) in
-      record { front = rw (n, e); behind-it = sym (ap behind e); inside = h; more = λ q. m }
+      record { front = rw (n, e); behind-it = sym (ap textAfter e); inside = h; more = λ q. m }
 
-pub begins-as : {from : List ℕ → ℕ → List ℕ} {text : List ℕ} {at : ℕ} {r s : Next} → r ≡ s → Begins from text at s → Begins from text at r
+pub begins-as : {from : List ℕ → ℕ → List ℕ} {text : List ℕ} {at : ℕ} {r s : Next} → r ≡ s → NextBegins from text at s → NextBegins from text at r
 begins-as e b = rw e b
 
 -- in a text of code points
@@ -90,7 +90,7 @@ join-alone : (a : ℕ) (x : List ℕ) → pair a (getD x 0 0) ≡ 0 → join (a 
 join-alone a [] e = join-one a
 join-alone a (b ∷ x) e = join-apart a b x e
 
-join-more : (a : ℕ) (x : List ℕ) → (pair a (getD x 0 0) ≡ 0 → ⊥) → join (a ∷ x) ≡ join (pair a (getD x 0 0) ∷ behind x)
+join-more : (a : ℕ) (x : List ℕ) → (pair a (getD x 0 0) ≡ 0 → ⊥) → join (a ∷ x) ≡ join (pair a (getD x 0 0) ∷ textAfter x)
 join-more a [] n = absurd (n (apart-end a))
 join-more a (b ∷ x) n = join-joined a b x n
 
@@ -101,7 +101,7 @@ module _ (text : List ℕ) where
   front-code : (at : ℕ) → getD (drop at text) 0 0 ≡ getD text at 0
   front-code at = getD-drop at text 0 0 ∙ rw add-zero
 
-  -- what joins with the code point behind it has one
+  -- what joins with the code point after it has one
   pub joins-inside : (a at : ℕ) → (pair a (getD text at 0) ≡ 0 → ⊥) → at < length text
   joins-inside a at n =
       test (ltb at (length text)) (λ q. ltb-true at (length text) q)
@@ -111,7 +111,7 @@ module _ (text : List ℕ) where
       absurd (n (ap (pair a) z ∙ apart-end a)))
 
 module _ (text : List ℕ) (at : ℕ) where
-  pub code-end : length text ≤ at → at ≤ length text → {r : Next} → r ≡ nextOf 0 0 → Begins joinedFrom text at r
+  pub code-end : length text ≤ at → at ≤ length text → {r : Next} → r ≡ nextOf 0 0 → NextBegins joinedFrom text at r
   code-end h k e = begins-as e (begins-end joinedFrom text at 0 (rw (drop-of-length-le text h)) k)
 
   -- it and b, the next, join to two, or two is 0
@@ -119,7 +119,7 @@ module _ (text : List ℕ) (at : ℕ) where
     first-pair : two ≡ pair (getD text at 0) (getD (drop (at + 1) text) 0 0)
     first-pair = joined ∙ ap (pair (getD text at 0)) (second ∙ sym (front-code text (at + 1)))
 
-    pub code-alone : two ≡ 0 → {r : Next} → r ≡ nextOf (getD text at 0) 1 → Begins joinedFrom text at r
+    pub code-alone : two ≡ 0 → {r : Next} → r ≡ nextOf (getD text at 0) 1 → NextBegins joinedFrom text at r
     code-alone z e =
         begins-as e (begins-front joinedFrom text at (getD text at 0) 1
         (ap join (at-index text at (at + 1) (omega arith) inside) ∙ join-alone (getD text at 0) (drop (at + 1) text) (sym first-pair ∙ z))
@@ -140,12 +140,12 @@ module _ (text : List ℕ) (at : ℕ) where
       second-pair : three ≡ pair two (getD (drop (at + 2) text) 0 0)
       second-pair = joined-three ∙ ap (pair two) (third ∙ sym (front-code text (at + 2)))
 
-      pub code-two : three ≡ 0 → {r : Next} → r ≡ nextOf two 2 → Begins joinedFrom text at r
+      pub code-two : three ≡ 0 → {r : Next} → r ≡ nextOf two 2 → NextBegins joinedFrom text at r
       code-two z e =
           begins-as e (begins-front joinedFrom text at two 2
           (two-front some ∙ join-alone two (drop (at + 2) text) (sym second-pair ∙ z)) (omega arith) (omega (arith, second-inside some)))
 
-      pub code-three : (three ≡ 0 → ⊥) → {r : Next} → r ≡ nextOf three 3 → Begins joinedFrom text at r
+      pub code-three : (three ≡ 0 → ⊥) → {r : Next} → r ≡ nextOf three 3 → NextBegins joinedFrom text at r
       code-three n e =
           let inside-three : at + 2 < length text = joins-inside text two (at + 2) (λ z. n (joined-three ∙ ap (pair two) third ∙ z)) in
           let next : drop (at + 2) text ≡ getD text (at + 2) 0 ∷ drop (at + 3) text =
@@ -159,19 +159,19 @@ module _ (text : List ℕ) (at : ℕ) where
 -- in a text of bytes
 
 byte-end : (text : List ℕ) (at : ℕ) → length text ≤ at → at ≤ length text → {t : Taken} → t ≡ characterFrom (pieces kindOf (drop at text))
-    → {r : Next} → r ≡ nextOf (t .code) (t .size) → Begins mendedFrom text at r
+    → {r : Next} → r ≡ nextOf (t .code) (t .size) → NextBegins mendedFrom text at r
 byte-end text at h k e f =
     let d : drop at text ≡ [] = drop-of-length-le text h in
     begins-as f (rw (e, d) (begins-end mendedFrom text at 0 (rw d) k))
 
 byte-inside : (text : List ℕ) (at : ℕ) → at < length text → {t : Taken} → t ≡ characterFrom (pieces kindOf (drop at text)) → {r : Next}
-    → r ≡ nextOf (t .code) (t .size) → Begins mendedFrom text at r
+    → r ≡ nextOf (t .code) (t .size) → NextBegins mendedFrom text at r
 byte-inside text at h {t} e f =
     let c : Character text at t = character-next text at h e in
     begins-as f (begins-front mendedFrom text at (t .code) (t .size) (c .joins) (c .more) (c .goes .inside))
 
 pub byte-begins : (text : List ℕ) (at : ℕ) → at ≤ length text → {t : Taken} → t ≡ characterFrom (pieces kindOf (drop at text)) → {r : Next}
-    → r ≡ nextOf (t .code) (t .size) → Begins mendedFrom text at r
+    → r ≡ nextOf (t .code) (t .size) → NextBegins mendedFrom text at r
 byte-begins text at k e f =
     test (ltb at (length text)) (λ q. byte-inside text at (ltb-true at (length text) q) e f)
     (λ q. byte-end text at (ltb-false at (length text) q) k e f)
@@ -179,12 +179,12 @@ byte-begins text at k e f =
 -- ---- one step
 
 -- what is left where a front has passed, or has not
-passed-on : (from : List ℕ → ℕ → List ℕ) (text : List ℕ) (at : ℕ) {a : Next} → Begins from text at a → (b : Bool)
-    → from text (at + cond b (a .size) 0) ≡ cond b (behind (from text at)) (from text at)
+passed-on : (from : List ℕ → ℕ → List ℕ) (text : List ℕ) (at : ℕ) {a : Next} → NextBegins from text at a → (b : Bool)
+    → from text (at + cond b (a .size) 0) ≡ cond b (textAfter (from text at)) (from text at)
 passed-on from text at h true = h .behind-it
 passed-on from text at h false = rw (add-zero at)
 
-passed-inside : (from : List ℕ → ℕ → List ℕ) (text : List ℕ) (at : ℕ) {a : Next} → Begins from text at a → (b : Bool)
+passed-inside : (from : List ℕ → ℕ → List ℕ) (text : List ℕ) (at : ℕ) {a : Next} → NextBegins from text at a → (b : Bool)
     → at + cond b (a .size) 0 ≤ length text
 passed-inside from text at h true = h .inside
 passed-inside from text at h false = omega (arith, h .inside)
@@ -197,9 +197,16 @@ passed-most false n = omega arith
 adds-within : (at size : ℕ) (b : Bool) {p : ℕ} → at + size ≤ 16384 → p ≡ cond b size 0 → at + p ≤ 16384
 adds-within at size b h e = omega (arith, passed-most b size)
 
+module _ {s : At} {a b : Next} {m : Move} (f : WithinLimit s a b) (steps : Steps (s .state) (a .front) (b .front) m) {p : ℕ} where
+  pub first-adds : p ≡ cond (m .first) (a .size) 0 → s .first + p ≤ 16384
+  first-adds e = adds-within (s .first) (a .size) (m .first) (f .first-fits) e
+
+  pub second-adds : p ≡ cond (m .second) (b .size) 0 → s .second + p ≤ 16384
+  second-adds e = adds-within (s .second) (b .size) (m .second) (f .second-fits) e
+
 module _ (s : At) (a b : Next) (m : Move) (steps : Steps (s .state) (a .front) (b .front) m) {p q : ℕ}
     (first-passes : p ≡ cond (m .first) (a .size) 0) (second-passes : q ≡ cond (m .second) (b .size) 0) where
-  module _ (from : List ℕ → ℕ → List ℕ) (first second : List ℕ) (h : Begins from first (s .first) a) (k : Begins from second (s .second) b) where
+  module _ (from : List ℕ → ℕ → List ℕ) (first second : List ℕ) (h : NextBegins from first (s .first) a) (k : NextBegins from second (s .second) b) where
     step-ranks : rankFrom (s .state) (from first (s .first)) (from second (s .second))
         ≡ rankFrom (m .state) (from first (s .first + p)) (from second (s .second + q))
     step-ranks =
@@ -220,24 +227,16 @@ module _ (s : At) (a b : Next) (m : Move) (steps : Steps (s .state) (a .front) (
     step-more (inr (e, n)) = omega (arith, k .more n, second-passes ∙ ap (λ (c : Bool). cond c (b .size) 0) e)
 
   -- THE STEP, wherever the two characters begin
-  step-advances : Advances s a b (record { state = m .state; first = s .first + p; second = s .second + q })
-  step-advances = record {
+  pub advances : Advances s a b (record { state = m .state; first = s .first + p; second = s .second + q })
+  advances = record {
     advanced = λ from first second h k. record {
       follows = step-follows from first second h k;
       more = λ g. step-more from first second h k (steps .on g);
     };
   }
 
-  -- the code's sums wrap, and where they fit they are the sums
-  pub advances : {u v : ℕ} → u ≡ (s .first + p) % 2 ^ 64 → v ≡ (s .second + q) % 2 ^ 64 → Fits s a b
-      → Advances s a b (record { state = m .state; first = u; second = v })
-  advances {u} {v} e d f =
-      let first : u ≡ s .first + p = omega (arith, adds-within (s .first) (a .size) (m .first) (f .first-fits) first-passes, e) in
-      let second : v ≡ s .second + q = omega (arith, adds-within (s .second) (b .size) (m .second) (f .second-fits) second-passes, d) in
-      rw (first, second) step-advances
-
 module _ {from : List ℕ → ℕ → List ℕ} {first second : List ℕ} {s : At} where
-  pub fits : Reached first second s → {a b : Next} → Begins from first (s .first) a → Begins from second (s .second) b → Fits s a b
+  pub fits : Reached first second s → {a b : Next} → NextBegins from first (s .first) a → NextBegins from second (s .second) b → WithinLimit s a b
   fits r h k = record {
     first-fits = omega (arith, h .inside, r .first-limit);
     second-fits = omega (arith, k .inside, r .second-limit);

@@ -1,6 +1,6 @@
--- The items of a label: document 01, 'Ranking labels': a longest run of ASCII digits is a number of any length, any other code point is itself.
--- `items` computes them; `Itemised` says what has to be true of them, and is shown to hold of these alone (proofs/Items).
--- Not here: how items rank (specs/Ranking). Assumes nothing.
+-- The items of a label: document 01, 'Ranking labels': a longest run of ASCII digits is a number of
+-- any length, any other code point is itself. `items` computes them. `Itemised` says what has to be
+-- true of them; proofs/Items shows that it holds of these alone.
 use mathlib.Core.Path.{_≡_}
 use mathlib.Core.Bool.{Bool, true, false, cond}
 use mathlib.Core.List.{List, [], _∷_, _++_}
@@ -23,16 +23,16 @@ run [] = []
 run (c ∷ x) = cond (isDigit c) (c ∷ run x) []
 
 -- the natural number that digits write: each counts ten times as much as the next
-unfoldable pub valueOf : List ℕ → ℕ
-valueOf [] = 0
-valueOf (d ∷ x) = (d - 0x30) * 10 ^ length x + valueOf x
+unfoldable pub digitsValue : List ℕ → ℕ
+digitsValue [] = 0
+digitsValue (d ∷ x) = (d - 0x30) * 10 ^ length x + digitsValue x
 
--- the items of a text, behind a digit or not: behind a digit a digit is in its number already
+-- the items of a text, after a digit or not: after a digit a digit is in its number already
 unfoldable pub itemsBehind : Bool → List ℕ → List Item
 itemsBehind digit [] = []
 itemsBehind digit (c ∷ x) =
     cond (isDigit c)
-    (cond digit (itemsBehind true x) (number (valueOf (run (c ∷ x))) ∷ itemsBehind true x))
+    (cond digit (itemsBehind true x) (number (digitsValue (run (c ∷ x))) ∷ itemsBehind true x))
     (character c ∷ itemsBehind false x)
 
 -- THE ITEMS
@@ -46,9 +46,10 @@ abbrev pub Ends : List ℕ → Type 0
 Ends [] = Unit {0}
 Ends (c ∷ x) = isDigit c ≡ false
 
--- a text of no characters has no items; a code point that is no digit is itself; and digits that are as many as there are, are one number
+-- a text of no characters has no items; a code point that is no digit is itself; and digits that
+-- are as many as there are, are one number
 pub data Itemised : List ℕ → List Item → Type 0 where
   none : Itemised [] []
   other : (c : ℕ) {x : List ℕ} {i : List Item} → isDigit c ≡ false → Itemised x i → Itemised (c ∷ x) (character c ∷ i)
   digits : (d : ℕ) (r : List ℕ) {x : List ℕ} {i : List Item} → All (λ c. isDigit c ≡ true) (d ∷ r) → Ends x → Itemised x i
-      → Itemised (d ∷ r ++ x) (number (valueOf (d ∷ r)) ∷ i)
+      → Itemised (d ∷ r ++ x) (number (digitsValue (d ∷ r)) ∷ i)

@@ -1,5 +1,5 @@
--- Crate ranking, specs/: the items of a label, the rank of two labels, and what is known on the way, lowest first.
--- Not here: any law or proof (proofs/).
+-- The definitions of crate ranking, lowest first: the items of a label, the rank of two labels, and
+-- what the private functions promise.
 pub mod Items
 pub mod Ranking
-pub mod Steps
+pub mod Inner

@@ -1,6 +1,6 @@
--- The rank of two labels: document 01, 'Ranking labels': both texts are joined; numbers stand before code points; numbers rank by value, code points
--- by value; a label whose items are the beginning of another's comes first. And the contracts of the calls.
--- Not here: items (specs/Items), joining and reading (crates joining, utf8). Assumes nothing.
+-- The rank of two labels: document 01, 'Ranking labels': both texts are joined; numbers stand
+-- before code points; numbers rank by value, code points by value; a label whose items are the
+-- beginning of another's comes first. And the contracts of the calls.
 use mathlib.Core.Path.{_≡_}
 use mathlib.Core.Bool.{cond}
 use mathlib.Core.List.{List, [], _∷_}
@@ -20,7 +20,7 @@ use Rattle.ranking.specs.declared.order.Ranked.the-variants.{Stands, Ref
 
 -- ---- the three answers
 
--- the number of each, where it is told as a number (include/pulphopper.h)
+-- the number of each, for callers that take a number (include/pulphopper.h)
 abbrev pub orderNumber : Order → ℕ
 orderNumber Before = 0
 orderNumber Equal = 1
@@ -42,7 +42,7 @@ swapped Before = After
 swapped Equal = Equal
 swapped After = Before
 
--- a comparison, and where it says equal, the next one
+-- a comparison, and if it says equal, the next one
 abbrev pub thenBy : Order → Order → Order
 thenBy Before next = Before
 thenBy Equal next = next
@@ -72,7 +72,7 @@ rankBytes first second = rank (readText first) (readText second)
 
 -- ---- at most
 
--- the first label does not stand behind the second
+-- the first label does not stand after the second
 abbrev pub AtMost : List ℕ → List ℕ → Type 0
 AtMost first second = rank first second ≡ After → ⊥
 

@@ -1,4 +1,13 @@
-// Ranking two labels (document 01, 'Ranking labels'): the definitions and laws, and the types that they speak of.
-// Not here: what is done with an order (ranking_order), one step (ranking_apart, ranking_step), along two texts (ranking_walk), the calls (ranking_text, ranking_bytes), the order of a file's records (sorting).
-pub mod order;
-pub mod step;
+// Which of two labels comes first (document 01, 'Ranking labels').
+mod bytes;
+mod compare;
+mod order;
+mod text;
+
+pub use bytes::rank_bytes;
+pub use order::Order;
+pub use order::Ranked;
+pub use order::compared;
+pub use order::followed;
+pub use order::number_of;
+pub use text::rank;

@@ -1,5 +1,8 @@
--- WHAT IS PRINTED OF AN IMAGE IS AT MOST 2,618 BYTES, and a buffer of 2,618 bytes is never too short: of every image, with no premise on its order.
--- In order: `image-most`, and that it is reached (`image-full`); `image-enough`. Not here: the count itself (proofs/Printed). Assumes nothing.
+-- WHAT IS PRINTED OF AN IMAGE IS AT MOST 2,618 BYTES, and a buffer of 2,618 bytes is never too
+-- short.
+--
+-- In order: the bound (`image-most`), and that it is reached (`image-full`); such a buffer is
+-- enough (`image-enough`).
 use mathlib.Core.Path.{_≡_}
 use mathlib.Core.List.{List}
 use Prim.Native.Nat.{ℕ, _≤_}
@@ -23,7 +26,7 @@ module _ (image : List ℕ) where
   unfolding printed
   image-full e = printed-full (order-right image) (order-length image) (omega (arith, e))
 
-  -- an image that is taken is printed where the buffer has 2,618 bytes
+  -- an image that is taken is printed if the buffer has 2,618 bytes
   pub image-enough : takesImage image ≡ passes → (out : List ℕ) → 2618 ≤ length out → {r : Judged} {out′ : List ℕ} → Prints image out r out′
       → (r ≡ Records (length (printed image))) × (out′ ≡ front (printed image) out)
   image-enough taken out room p = prints-enough image out (order-right image) (order-length image) taken room p

@@ -1,5 +1,5 @@
--- Crate sorting, proofs/: the laws of the order and of its lines, lowest first.
--- Not here: the definitions (specs/), and the proofs of the functions, which stand in folders of their own.
+-- The laws of crate sorting. What a caller may cite is `pub mod`; functions' proofs have folders of
+-- their own.
 pub mod Standing
 pub mod Sorted
 pub mod Placing

@@ -1,9 +1,12 @@
--- The loop that puts all records in their places, and what the call says. In order: what the loop has made (`ordered-begin`, `ordered-size`, `ordered-search`, `ordered-more`, `ordered-end`); the ways in which the call returns
--- (`records-taken`, `records-count`, `orders-room`, `orders-done`, `orders-refused`, `orders-bad`); ANY TWO RESULTS ARE EQUAL (`orders-unique`);
--- A CALL THAT IS DONE LEAVES THE ORDER (`call-order`) AND COUNTS THE RECORDS (`call-count`).
--- Not here: the order (proofs/Sorted), the place of one record (proofs/Placing). Assumes nothing.
+-- The loop that puts all records in their places, and what the call promises.
+--
+-- In order: what the loop has made (`ordered-begin`, `ordered-size`, `ordered-search`,
+-- `ordered-more`, `ordered-end`); the ways in which the call returns (`records-taken`,
+-- `records-count`, `orders-room`, `orders-done`, `orders-refused`, `orders-bad`); ANY TWO RESULTS
+-- ARE EQUAL (`orders-unique`); A CALL THAT IS DONE LEAVES THE ORDER (`call-order`) AND COUNTS THE
+-- RECORDS (`call-count`).
 use mathlib.Core.Path.{_≡_, refl, sym, _∙_, ap}
-use mathlib.Core.List.{List, [], _∷_, _++_, append-assoc}
+use mathlib.Core.List.{List, _∷_, _++_, append-assoc}
 use Prim.Native.Nat.{ℕ, suc, _+_, _-_, _≤_, _<_}
 use native.Mathlib.Numerals.{add-one}
 use native.Mathlib.Omega.{arith}
@@ -12,15 +15,15 @@ use lib.Seq.{take-at, drop-append-add, drop-drop}
 use Rattle.laws.specs.Writing.{front}
 use Rattle.answers.specs.Checks.{Check, passes, refuses}
 use Rattle.answers.specs.Verdicts.{Verdict, done, verdict, Fills}
-use Rattle.answers.specs.declared.Refusal.{Refusal}
-use Rattle.answers.specs.declared.Refusal.the-variants.{NoRoom}
+use Rattle.answers.specs.declared.refusal.Refusal.{Refusal}
+use Rattle.answers.specs.declared.refusal.Refusal.the-variants.{NoRoom}
 use Rattle.answers.proofs.Verdicts.{done-not-refused, refused-room, filled-whole, fills-unique, fills-done, fills-front}
 use Rattle.labels.specs.Images.{countOf, takesImage, badRecord, judgedAs, namedBy, Judges}
 use Rattle.labels.specs.declared.image.Judged.{Judged}
 use Rattle.labels.specs.declared.image.Judged.the-variants.{Records, Refused, BadRecord}
 use Rattle.labels.proofs.Calls.{judged-injective}
-use Rattle.sorting.specs.Sorting.{standing, ordered, orderOf, Orders}
-use Rattle.sorting.specs.Steps.{Searchable, Placed, Inserted}
+use Rattle.sorting.specs.Sorting.{standing, sortedBy, orderOf, Orders}
+use Rattle.sorting.specs.Inner.{Searchable, PlaceFound, Inserted}
 use Rattle.sorting.proofs.Standing.{standing-strict}
 use Rattle.sorting.proofs.Sorted.{ordered-next, ordered-none, ordered-length, ordered-sorted, order-length}
 use Rattle.sorting.proofs.Placing.{place-found}
@@ -28,12 +31,12 @@ use Rattle.sorting.proofs.Placing.{place-found}
 -- ---- what the loop has made: the first n are in their places, and the rest of the buffer is as it was
 
 module _ (image out₀ : List ℕ) where
-  pub ordered-begin : out₀ ≡ front (ordered (standing image) 0) out₀
+  pub ordered-begin : out₀ ≡ front (sortedBy (standing image) 0) out₀
   ordered-begin = rw (ordered-none (standing image))
 
-  module _ {n : ℕ} {out : List ℕ} (room : n ≤ length out₀) (made : out ≡ front (ordered (standing image) n) out₀) where
-    first-made : take n out ≡ ordered (standing image) n
-    first-made = ap (take n) made ∙ take-at (ordered (standing image) n) _ n (ordered-length (standing image) n)
+  module _ {n : ℕ} {out : List ℕ} (room : n ≤ length out₀) (made : out ≡ front (sortedBy (standing image) n) out₀) where
+    first-made : take n out ≡ sortedBy (standing image) n
+    first-made = ap (take n) made ∙ take-at (sortedBy (standing image) n) _ n (ordered-length (standing image) n)
 
     pub ordered-size : length out ≡ length out₀
     ordered-size =
@@ -48,23 +51,23 @@ module _ (image out₀ : List ℕ) where
 
     behind-made : drop (suc n) out ≡ drop (suc n) out₀
     behind-made =
-        let size : length (ordered (standing image) n) ≡ n = ordered-length (standing image) n in
-        let one : suc n ≡ length (ordered (standing image) n) + 1 = omega arith in
-        rw (one, made) (drop-append-add (ordered (standing image) n) (drop (length (ordered (standing image) n)) out₀) 1
-        ∙ drop-drop 1 (length (ordered (standing image) n)) out₀)
+        let size : length (sortedBy (standing image) n) ≡ n = ordered-length (standing image) n in
+        let one : suc n ≡ length (sortedBy (standing image) n) + 1 = omega arith in
+        rw (one, made) (drop-append-add (sortedBy (standing image) n) (drop (length (sortedBy (standing image) n)) out₀) 1
+        ∙ drop-drop 1 (length (sortedBy (standing image) n)) out₀)
 
     -- one more, put in its place
-    pub ordered-more : {at : ℕ} {out′ : List ℕ} → Placed image out n n at → Inserted out n at n out′
-        → out′ ≡ front (ordered (standing image) (n + 1)) out₀
+    pub ordered-more : {at : ℕ} {out′ : List ℕ} → PlaceFound image out n n at → Inserted out n at n out′
+        → out′ ≡ front (sortedBy (standing image) (n + 1)) out₀
     ordered-more {at} {out′} p i =
         let inside : n ≤ length out = omega (arith, ordered-size) in
-        let next : ordered (standing image) (suc n) ≡ take at out ++ (n ∷ take (n - at) (drop at out)) =
+        let next : sortedBy (standing image) (suc n) ≡ take at out ++ (n ∷ take (n - at) (drop at out)) =
         ordered-next (standing image) n ∙ rw first-made at (place-found inside p) in
         rw (add-one, ordered-length (standing image) (suc n), next)
         (i .holds ∙ rw (append-assoc, behind-made))
 
 -- all of them
-pub ordered-end : (image out₀ : List ℕ) {n : ℕ} {out : List ℕ} → out ≡ front (ordered (standing image) n) out₀ → n ≡ countOf image
+pub ordered-end : (image out₀ : List ℕ) {n : ℕ} {out : List ℕ} → out ≡ front (sortedBy (standing image) n) out₀ → n ≡ countOf image
     → out ≡ front (orderOf image) out₀
 ordered-end image out₀ made e = rw e at made
 

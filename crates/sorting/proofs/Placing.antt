@@ -1,8 +1,10 @@
--- Where a record is put. In order: a number whose place is known (`placed-at`), WHAT THE SEARCH FINDS IS THE PLACE (`place-found`); the search by
--- halves: where it begins (`between-all`), where it ends (`between-none`), its two halves (`halved-right`, `halved-left`); moving up those behind the
--- place: what the loop keeps (`Moving`), where it begins (`moving-begin`), its turn (`moving-next`), its length (`moving-length`) and its end
--- (`moving-done`).
--- Not here: that the list so made is the order (proofs/Sorted), the loop over all records (proofs/Ordering). Assumes nothing.
+-- Where a record is put.
+--
+-- In order: a number whose place is known (`placed-at`), WHAT THE SEARCH FINDS IS THE PLACE
+-- (`place-found`); the search by halves, from its beginning (`between-all`) by either half
+-- (`halved-right`, `halved-left`) to its end (`between-none`); moving up the numbers from the place
+-- on: the loop's invariant (`Moving`), its beginning (`moving-begin`), its turn (`moving-next`),
+-- its length (`moving-length`) and its end (`moving-done`).
 use mathlib.Core.Path.{_≡_, sym, _∙_, ap}
 use mathlib.Core.Bool.{Bool, true, false}
 use mathlib.Core.List.{List, [], _∷_, _++_, append-assoc}
@@ -17,14 +19,14 @@ use Rattle.laws.proofs.Bools.{test}
 use Rattle.ranking.specs.declared.order.Order.{Order}
 use Rattle.ranking.specs.declared.order.Order.the-variants.{Before}
 use Rattle.sorting.specs.Sorting.{standing, isBefore, placed}
-use Rattle.sorting.specs.Steps.{Between, Searchable, Halved, Placed, Inserted}
-use Rattle.sorting.specs.declared.span.Span.{Span}
+use Rattle.sorting.specs.Inner.{Between, Searchable, Halved, PlaceFound, Inserted}
+use Rattle.sorting.specs.declared.records.Span.{Span}
 use Rattle.sorting.proofs.Standing.{standing-before, standing-strict, is-before, is-not-before}
 use Rattle.sorting.proofs.Sorted.{placed-none, placed-behind, placed-here, sorted-at}
 
 -- ---- the place
 
--- a number is put behind all that stand before it, where none behind these does
+-- a number is put after all that stand before it, if none after these does
 pub placed-at : (stands : ℕ → ℕ → Order) (k : ℕ) (x : List ℕ) (at : ℕ) → at ≤ length x → ((i : ℕ) → i < at → stands (getD x i 0) k ≡ Before)
     → ((i : ℕ) → at ≤ i → i < length x → stands (getD x i 0) k ≡ Before → ⊥) → placed stands k x ≡ take at x ++ (k ∷ drop at x)
 placed-at stands k [] zero h below above = placed-none stands k
@@ -41,7 +43,7 @@ cut-at numbers n at h =
     let whole : at + (n - at) ≡ n = omega arith in
     rw whole at (take-add at (n - at) numbers)
 
-module _ {image numbers : List ℕ} {n k at : ℕ} (inside : n ≤ length numbers) (found : Placed image numbers n k at) where
+module _ {image numbers : List ℕ} {n k at : ℕ} (inside : n ≤ length numbers) (found : PlaceFound image numbers n k at) where
   first-size : length (take n numbers) ≡ n
   first-size = length-take-le n numbers inside
 
@@ -81,7 +83,7 @@ module _ {image numbers : List ℕ} {n : ℕ} (s : Searchable image numbers n) w
   }
 
   module _ {k : ℕ} {span : Span} (b : Between image numbers n k span) where
-    pub between-none : span .high ≤ span .low → Placed image numbers n k (span .low)
+    pub between-none : span .high ≤ span .low → PlaceFound image numbers n k (span .low)
     between-none h = record {
       inside = omega (arith, b .ordered, b .inside);
       below = b .below;
@@ -137,7 +139,7 @@ module _ {image numbers : List ℕ} {n : ℕ} (s : Searchable image numbers n) w
               let same : i ≡ middle = omega (arith, ltb-false middle i t) in
               first (rw same at q))
 
--- ---- moving up those behind the place
+-- ---- moving up those from the place on
 
 -- those from `to` on have moved up by one: what stands at `to` is no longer needed
 pub record Moving (numbers₀ : List ℕ) (n to : ℕ) (numbers : List ℕ) : Type 0 where

@@ -1,25 +1,29 @@
--- All lines together, and what printing says over its contract. In order: a list with one of its numbers left out (`Out`, and what is kept);
--- a list that has every number below n, and has n numbers, has each once: its lines are as long together as those of the numbers from 0 on
--- (`counted-size`); HOW LONG THE LINES ARE AT MOST (`printed-most`, `image-printed-most`), and that 682 records need just that many bytes
--- (`printed-full`); what the answer of `order` says (`order-refused`, `order-bad`, and of the numbers that it leaves
--- `numbers-order`, `numbers-most`, `numbers-inside`, `numbers-below`); the returns of printing, one law each (`prints-refused`, `prints-bad`,
--- `prints-lacking`, `prints-done`); ANY TWO RESULTS ARE EQUAL (`prints-unique`); A BUFFER OF 2,618 BYTES IS NEVER TOO SHORT (`prints-enough`).
--- Not here: one number's line (proofs/Decimals); that the order is right, and how many it has, which are premises here (proofs/Sorted).
--- Assumes nothing.
+-- All lines together, and what printing promises, from its contract.
+--
+-- In order: a list with one of its numbers left out (`Out`); a list of n numbers that has every
+-- number below n has each once, so its lines are together as long as those of the numbers from 0 on
+-- (`counted-size`); HOW LONG THE LINES ARE AT MOST (`printed-most`, `image-printed-most`), and that
+-- 682 records need just that many bytes (`printed-full`); what the answer of `order` says
+-- (`order-refused`, `order-bad`), and what the numbers are that it leaves (`numbers-order`,
+-- `numbers-most`, `numbers-inside`); the returns of printing, one law each (`prints-refused`,
+-- `prints-bad`, `prints-lacking`, `prints-done`); ANY TWO RESULTS ARE EQUAL (`prints-unique`); A
+-- BUFFER OF 2,618 BYTES IS NEVER TOO SHORT (`prints-enough`).
+--
+-- That the order is right and how many numbers it has are premises here.
 use mathlib.Core.Path.{_≡_, refl, sym, _∙_, ap}
 use mathlib.Core.List.{List, [], _∷_}
 use Prim.Native.Nat.{ℕ, zero, suc, _+_, _-_, _*_, _≤_, _<_}
 use native.Mathlib.Nat.{suc-add}
 use native.Mathlib.Omega.{arith}
 use lib.ListN.{length, take, drop, length-append}
-use Rattle.laws.specs.Lists.{All, each}
+use Rattle.laws.specs.Lists.{each}
 use Rattle.laws.specs.Writing.{front, Fronts}
-use Rattle.laws.proofs.Lists.{each-cons, length-each-most, all-map}
+use Rattle.laws.proofs.Lists.{each-cons, length-each-most}
 use Rattle.answers.specs.Checks.{Check, passes, refuses}
 use Rattle.answers.specs.Verdicts.{done, refused, verdict, fits}
 use Rattle.answers.specs.Answers.{told}
-use Rattle.answers.specs.declared.Refusal.{Refusal}
-use Rattle.answers.specs.declared.Refusal.the-variants.{NoRoom}
+use Rattle.answers.specs.declared.refusal.Refusal.{Refusal}
+use Rattle.answers.specs.declared.refusal.Refusal.the-variants.{NoRoom}
 use Rattle.answers.proofs.Checks.{no-room-passes}
 use Rattle.answers.proofs.Verdicts.{refused-before, refused-room, filled-whole, fills-unique, fills-done, fills-front, done-not-refused}
 use Rattle.ranking.specs.declared.order.Order.{Order}
@@ -29,7 +33,7 @@ use Rattle.labels.specs.declared.image.Judged.the-variants.{Records, Refused, B
 use Rattle.labels.proofs.Images.{taken-short, taken-count}
 use Rattle.labels.proofs.Calls.{judged-injective}
 use Rattle.sorting.specs.Sorting.{standing, Member, here, there, InOrder, orderOf, Orders}
-use Rattle.sorting.specs.Printing.{decimalOf, lineOf, printed, Prints}
+use Rattle.sorting.specs.Printing.{decimalOf, numberLine, printed, Prints}
 use Rattle.sorting.proofs.Decimals.{Digits, one, two, three, digits, line-most, long-three}
 
 -- ---- a list with one of its numbers left out
@@ -83,7 +87,8 @@ no-length : (x : List ℕ) → length x ≡ 0 → x ≡ []
 no-length [] e = refl
 no-length (k ∷ x) e = absurd (omega arith)
 
--- every number below n is there, and there are n: then the lines are as long together as those of the numbers below n
+-- every number below n is there, and there are n: then the lines are as long together as those of
+-- the numbers below n
 pub counted-size : (f : ℕ → List ℕ) (n : ℕ) (x : List ℕ) → ((k : ℕ) → k < n → Member k x) → length x ≡ n
     → length (each f x) ≡ length (each f (below n))
 unfolding below
@@ -104,17 +109,17 @@ counted-size f (suc n) x all e =
 -- ---- HOW LONG THE LINES ARE AT MOST
 
 -- 10 lines of 2 bytes and 90 of 3
-below-hundred : length (each lineOf (below 100)) ≡ 290
-unfolding below each lineOf decimalOf
+below-hundred : length (each numberLine (below 100)) ≡ 290
+unfolding below each numberLine decimalOf
 below-hundred = refl
 
-below-more : (m : ℕ) → length (each lineOf (below (m + 100))) ≡ 290 + 4 * m
+below-more : (m : ℕ) → length (each numberLine (below (m + 100))) ≡ 290 + 4 * m
 unfolding below
 below-more zero = below-hundred
 below-more (suc m) =
     rw (suc-add m 100) (omega (
       arith,
-      ap length (each-cons lineOf (m + 100) (below (m + 100))) ∙ length-append (lineOf (m + 100)) (each lineOf (below (m + 100))),
+      ap length (each-cons numberLine (m + 100) (below (m + 100))) ∙ length-append (numberLine (m + 100)) (each numberLine (below (m + 100))),
       long-three (m + 100) (omega arith),
       below-more m,
     ))
@@ -124,27 +129,27 @@ unfolding below
 below-length zero = refl
 below-length (suc n) = ap suc (below-length n)
 
-pub below-most : (n : ℕ) → n ≤ 682 → length (each lineOf (below n)) ≤ 2618
+pub below-most : (n : ℕ) → n ≤ 682 → length (each numberLine (below n)) ≤ 2618
 below-most n most = by (digits n)
   where
-    short : n < 100 → length (each lineOf (below n)) ≤ 2618
-    short h = omega (arith, length-each-most lineOf 4 line-most (below n), below-length n)
+    short : n < 100 → length (each numberLine (below n)) ≤ 2618
+    short h = omega (arith, length-each-most numberLine 4 line-most (below n), below-length n)
 
-    by : Digits n → length (each lineOf (below n)) ≤ 2618
+    by : Digits n → length (each numberLine (below n)) ≤ 2618
     by (one h) = short (omega arith)
     by (two h g) = short g
     by (three h) =
         let m : n ≡ n - 100 + 100 = omega arith in
-        omega (arith, ap (λ (k : ℕ). length (each lineOf (below k))) m ∙ below-more (n - 100))
+        omega (arith, ap (λ (k : ℕ). length (each numberLine (below k))) m ∙ below-more (n - 100))
 
 -- at most 682 numbers in order, each once
-pub printed-most : {stands : ℕ → ℕ → Order} {n : ℕ} {x : List ℕ} → InOrder stands n x → length x ≡ n → n ≤ 682 → length (each lineOf x) ≤ 2618
-printed-most {n = n} {x = x} good sized most = omega (arith, counted-size lineOf n x (good .all) sized, below-most n most)
+pub printed-most : {stands : ℕ → ℕ → Order} {n : ℕ} {x : List ℕ} → InOrder stands n x → length x ≡ n → n ≤ 682 → length (each numberLine x) ≤ 2618
+printed-most {n = n} {x = x} good sized most = omega (arith, counted-size numberLine n x (good .all) sized, below-most n most)
 
 -- and 682 of them are printed in just that many bytes
-pub printed-full : {stands : ℕ → ℕ → Order} {n : ℕ} {x : List ℕ} → InOrder stands n x → length x ≡ n → n ≡ 682 → length (each lineOf x) ≡ 2618
+pub printed-full : {stands : ℕ → ℕ → Order} {n : ℕ} {x : List ℕ} → InOrder stands n x → length x ≡ n → n ≡ 682 → length (each numberLine x) ≡ 2618
 printed-full {n = n} {x = x} good sized full =
-    counted-size lineOf n x (good .all) sized ∙ ap (λ (k : ℕ). length (each lineOf (below k))) full ∙ below-more 582
+    counted-size numberLine n x (good .all) sized ∙ ap (λ (k : ℕ). length (each numberLine (below k))) full ∙ below-more 582
 
 -- so of an image within its limit
 pub image-printed-most : (image : List ℕ) → length image ≤ 65472 → InOrder (standing image) (countOf image) (orderOf image)
@@ -154,7 +159,7 @@ image-printed-most image h good sized = printed-most good sized (omega arith)
 
 -- ---- what the answer of `order` says
 
--- a call that has room where its checks pass, and is refused, is refused by its checks
+-- if a call has room whenever its checks pass, and is refused, its checks refuse it
 refused-by : (check : Check) (whole out : List ℕ) (value : ℕ) {number place : ℕ} → (check ≡ passes → length whole ≤ length out)
     → refused number place ≡ verdict (fits check whole out) value → check ≡ refuses number place
 refused-by passes whole out value room e = absurd (done-not-refused (sym (simp (no-room-passes (length out) (length whole) (room refl)) at e)))
@@ -190,9 +195,6 @@ module _ (image : List ℕ) (sized : length (orderOf image) ≡ countOf image) {
           ap length (order-done .2) ∙ length-append (orderOf image) (drop (length (orderOf image)) numbers),
         )
 
-    pub numbers-below : All (λ k. k < countOf image) (orderOf image) → All (λ k. k < 1000) (take n numbers′)
-    numbers-below inside = rw numbers-order (all-map (λ k h. omega (arith, taken-count image (order-done .0))) inside)
-
   -- ---- the returns of printing
 
   pub prints-refused : {s : Refusal} → r ≡ Refused s → (out : List ℕ) → Prints image out (Refused s) out
@@ -201,10 +203,10 @@ module _ (image : List ℕ) (sized : length (orderOf image) ≡ countOf image) {
   pub prints-bad : {k byte : ℕ} → r ≡ BadRecord k byte → (out : List ℕ) → Prints image out (BadRecord k byte) out
   prints-bad e out = record { fills = refused-before (order-bad e); names = sym (ap namedBy e) ∙ o .names }
 
-  module _ {n : ℕ} (e : r ≡ Records n) {needed : ℕ} (counted : needed ≡ length (each lineOf (take n numbers′))) where
-    lines-printed : each lineOf (take n numbers′) ≡ printed image
+  module _ {n : ℕ} (e : r ≡ Records n) {needed : ℕ} (counted : needed ≡ length (each numberLine (take n numbers′))) where
+    lines-printed : each numberLine (take n numbers′) ≡ printed image
     unfolding printed
-    lines-printed = ap (each lineOf) (numbers-order e)
+    lines-printed = ap (each numberLine) (numbers-order e)
 
     pub prints-lacking : {out : List ℕ} → length out < needed → Prints image out (Refused (NoRoom needed)) out
     prints-lacking h = record {
@@ -212,7 +214,7 @@ module _ (image : List ℕ) (sized : length (orderOf image) ≡ countOf image) {
       names = sym (ap namedBy e) ∙ o .names;
     }
 
-    pub prints-done : {out : List ℕ} → needed ≤ length out → {size : ℕ} {out′ : List ℕ} → Fronts (each lineOf (take n numbers′)) out size out′
+    pub prints-done : {out : List ℕ} → needed ≤ length out → {size : ℕ} {out′ : List ℕ} → Fronts (each numberLine (take n numbers′)) out size out′
         → Prints image out (Records size) out′
     prints-done {out} h {size} {out′} w =
         let v : Fronts (printed image) out size out′ = rw lines-printed at w in

@@ -1,11 +1,13 @@
--- THE ORDER IS A PERMUTATION OF ALL RECORD NUMBERS, SORTED BY RANK, BERTH AND NUMBER, AND IT IS THE ONLY ONE.
+-- THE ORDER IS A PERMUTATION OF ALL RECORD NUMBERS, SORTED BY RANK, BERTH AND NUMBER, AND IT IS THE
+-- ONLY ONE.
 --
--- In order: members (`member-length`, `member-cases`, `all-member`); one number put in its place, by cases (`placed-none`, `placed-behind`,
--- `placed-here`), and what that keeps (`placed-length`, `placed-all`, `placed-member`, `placed-kept`, `placed-sorted`); the first n numbers put in
--- their places one after the other (`ordered-next`, `ordered-none`, `ordered-length`, `ordered-inside`, `ordered-member`, `ordered-sorted`), which
--- is right over any strict order (`ordered-right`), and no other list is (`in-order-only`); sorted numbers at their indices (`sorted-at`); THE SAME
--- OF AN IMAGE (`order-right`, `order-only`, `order-length`, `order-inside`).
--- Not here: where the code puts a record (proofs/Placing). Assumes nothing.
+-- In order: members (`member-length`, `member-cases`, `all-member`); one number put in its place,
+-- by cases (`placed-none`, `placed-behind`, `placed-here`), and what that keeps (`placed-length`,
+-- `placed-all`, `placed-member`, `placed-kept`, `placed-sorted`); the first n numbers put in their
+-- places one after the other (`ordered-next`, `ordered-none`, `ordered-length`, `ordered-inside`,
+-- `ordered-member`, `ordered-sorted`): that is right over any strict order (`ordered-right`), and
+-- no other list is (`in-order-only`); sorted numbers at their indices (`sorted-at`); THE SAME OF AN
+-- IMAGE (`order-right`, `order-only`, `order-length`).
 use mathlib.Core.Path.{_≡_, refl, sym, _∙_, ap}
 use mathlib.Core.List.{List, [], _∷_}
 use Prim.Native.Nat.{ℕ, zero, suc, _≤_, _<_}
@@ -19,10 +21,9 @@ use Rattle.laws.proofs.Lists.{all-map, all-at}
 use Rattle.ranking.specs.declared.order.Order.{Order}
 use Rattle.ranking.specs.declared.order.Order.the-variants.{Before}
 use Rattle.labels.specs.Images.{countOf}
-use Rattle.sorting.specs.Sorting.{standing, isBefore, Sorted, Member, here, there, InOrder, placed, ordered, orderOf}
+use Rattle.sorting.specs.Sorting.{standing, isBefore, Sorted, Member, here, there, InOrder, placed, sortedBy, orderOf}
 use Rattle.sorting.specs.Sorting as sorting
-use Rattle.sorting.proofs.Standing.{Strict, before-not-self, before-not-back, else-before, standing-strict}
-use Rattle.sorting.proofs.Standing.{is-before, is-not-before, not-before}
+use Rattle.sorting.proofs.Standing.{Strict, before-not-self, before-not-back, else-before, standing-strict, is-before, is-not-before, not-before}
 
 -- ---- members
 
@@ -76,7 +77,7 @@ module _ (stands : ℕ → ℕ → Order) (k : ℕ) where
   placed-kept (there {j = j} {x = x} m) =
       either j (λ e. rw (placed-behind j x e) (there (placed-kept m))) (λ h. rw (placed-here j x h) (there (there m)))
 
-  -- the list stays sorted, where it has not that number
+  -- the list stays sorted, if it does not have that number
   pub placed-sorted : Strict stands → {x : List ℕ} → Sorted stands x → All (λ j. j ≡ k → ⊥) x → Sorted stands (placed stands k x)
   placed-sorted strict sorting.none none = rw placed-none (sorting.also none sorting.none)
   placed-sorted strict (sorting.also {k = j} {x = x} first rest) (also differs others) =
@@ -89,41 +90,41 @@ module _ (stands : ℕ → ℕ → Order) (k : ℕ) where
 -- ---- the first n numbers put in their places
 
 module _ (stands : ℕ → ℕ → Order) where
-  pub ordered-next : (n : ℕ) → ordered stands (suc n) ≡ placed stands n (ordered stands n)
-  unfolding ordered
+  pub ordered-next : (n : ℕ) → sortedBy stands (suc n) ≡ placed stands n (sortedBy stands n)
+  unfolding sortedBy
   ordered-next n = refl
 
-  pub ordered-none : ordered stands 0 ≡ []
-  unfolding ordered
+  pub ordered-none : sortedBy stands 0 ≡ []
+  unfolding sortedBy
   ordered-none = refl
 
-  pub ordered-length : (n : ℕ) → length (ordered stands n) ≡ n
+  pub ordered-length : (n : ℕ) → length (sortedBy stands n) ≡ n
   ordered-length zero = ap length ordered-none
   ordered-length (suc n) =
-      ap length (ordered-next n) ∙ placed-length stands n (ordered stands n) ∙ ap suc (ordered-length n)
+      ap length (ordered-next n) ∙ placed-length stands n (sortedBy stands n) ∙ ap suc (ordered-length n)
 
-  pub ordered-inside : (n : ℕ) → All (λ k. k < n) (ordered stands n)
+  pub ordered-inside : (n : ℕ) → All (λ k. k < n) (sortedBy stands n)
   ordered-inside zero = rw ordered-none none
   ordered-inside (suc n) =
       rw (ordered-next n) (placed-all stands n (omega arith) (all-map (λ k h. omega arith) (ordered-inside n)))
 
-  pub ordered-member : (n k : ℕ) → k < n → Member k (ordered stands n)
+  pub ordered-member : (n k : ℕ) → k < n → Member k (sortedBy stands n)
   ordered-member zero k h = absurd (omega arith)
   ordered-member (suc n) k h =
       rw (ordered-next n)
       (test (ltb k n) (λ e. placed-kept stands n (ordered-member n k (ltb-true k n e)))
       (λ e.
       let last : k ≡ n = omega (arith, ltb-false k n e) in
-      rw last (placed-member stands n (ordered stands n))))
+      rw last (placed-member stands n (sortedBy stands n))))
 
-  pub ordered-sorted : Strict stands → (n : ℕ) → Sorted stands (ordered stands n)
+  pub ordered-sorted : Strict stands → (n : ℕ) → Sorted stands (sortedBy stands n)
   ordered-sorted strict zero = rw ordered-none sorting.none
   ordered-sorted strict (suc n) =
       rw (ordered-next n)
       (placed-sorted stands n strict (ordered-sorted strict n) (all-map (λ k h e. omega arith) (ordered-inside n)))
 
   -- over any strict order: they are all there, and sorted
-  pub ordered-right : Strict stands → (n : ℕ) → InOrder stands n (ordered stands n)
+  pub ordered-right : Strict stands → (n : ℕ) → InOrder stands n (sortedBy stands n)
   ordered-right strict n = record { sorted = ordered-sorted strict n; inside = ordered-inside n; all = ordered-member n }
 
 -- ---- sorted lists with the same members are equal
@@ -135,7 +136,7 @@ module _ {stands : ℕ → ℕ → Order} (strict : Strict stands) where
       member-cases m (λ e. e)
       (λ m′. member-cases n (λ e. sym e) (λ n′. absurd (before-not-back strict a b (all-member p n′) (all-member q m′))))
 
-  -- what is a member behind the first of one list is one behind the first of the other
+  -- a member after the first of one list is one after the first of the other
   same-rest : {a b k : ℕ} {x y : List ℕ} → a ≡ b → All (λ j. stands a j ≡ Before) x → Member k x → Member k (b ∷ y) → Member k y
   same-rest {a} e p m n =
       member-cases n (λ q. absurd (before-not-self strict a (rw (q ∙ sym e) at (all-member p m)))) (λ n′. n′)
@@ -175,6 +176,3 @@ module _ (image : List ℕ) where
 
   pub order-length : length (orderOf image) ≡ countOf image
   order-length = ordered-length (standing image) (countOf image)
-
-  pub order-inside : All (λ k. k < countOf image) (orderOf image)
-  order-inside = ordered-inside (standing image) (countOf image)

@@ -1,23 +1,24 @@
--- Where one record stands to another is a strict order that tells every two records apart. In order: what such an order is (`Strict`), over any
--- numbers, and what it says (`before-not-self`, `before-not-back`, `else-before`); THE ORDER OF RECORDS IS ONE (`standing-self`, `standing-equal`,
--- `standing-swapped`, `standing-before`, `standing-strict`); its test (`is-before`, `is-not-before`, `not-before`); and ranking refuses no label
+-- The order of two records is a strict order that tells every two records apart.
+--
+-- In order: what such an order is (`Strict`), over any numbers, and what it says
+-- (`before-not-self`, `before-not-back`, `else-before`); THE ORDER OF RECORDS IS ONE
+-- (`standing-self`, `standing-equal`, `standing-swapped`, `standing-before`, `standing-strict`);
+-- its test (`is-before`, `is-not-before`, `not-before`); and ranking refuses no label
 -- (`labels-rank`, `labels-refused`).
--- Not here: the rank (crate ranking), lists in order (proofs/Sorted). Assumes nothing.
 use mathlib.Core.Path.{_≡_, refl, sym, _∙_, ap}
 use mathlib.Core.Bool.{true, false, false≢true}
 use mathlib.Core.List.{List}
 use Prim.Native.Nat.{ℕ}
 use native.Mathlib.Omega.{arith}
 use Rattle.answers.specs.Checks.{passes}
-use Rattle.answers.specs.declared.Refusal.{Refusal}
+use Rattle.answers.specs.declared.refusal.Refusal.{Refusal}
 use Rattle.answers.proofs.Checks.{bytes-taken}
 use Rattle.ranking.specs.Ranking.{byValue, swapped, thenBy, rankBytes, takesTwoBytes, RanksBytes}
 use Rattle.ranking.specs.declared.order.Order.{Order}
 use Rattle.ranking.specs.declared.order.Order.the-variants.{Before, Equal, After}
 use Rattle.ranking.specs.declared.order.Ranked.{Ranked}
 use Rattle.ranking.specs.declared.order.Ranked.the-variants.{Stands, Refused}
-use Rattle.ranking.proofs.Orders.{before-not-equal, before-not-after, equal-value, by-value-self, by-value-swapped}
-use Rattle.ranking.proofs.Orders.{swapped-then, then-equal-next, Chain, chain-value, chain-then, chain-before}
+use Rattle.ranking.proofs.Orders.{before-not-equal, before-not-after, equal-value, by-value-self, by-value-swapped, swapped-then, then-equal-next, Chain, chain-value, chain-then, chain-before}
 use Rattle.ranking.proofs.Ranks.{bytes-self, bytes-swapped, bytes-chain}
 use Rattle.ranking.proofs.Calls.{ranked-injective, two-bytes-taken}
 use Rattle.labels.specs.Images.{labelAt, berthAt}
@@ -51,7 +52,7 @@ module _ {stands : ℕ → ℕ → Order} (strict : Strict stands) where
 -- ---- THE ORDER OF RECORDS
 
 module _ (image : List ℕ) where
-  -- a record stands where it stands itself
+  -- a record is equal to itself
   pub standing-self : (i : ℕ) → standing image i i ≡ Equal
   unfolding standing
   standing-self i = rw (bytes-self (labelAt image i), by-value-self (berthAt image i)) (by-value-self i)

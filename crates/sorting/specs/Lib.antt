@@ -1,5 +1,5 @@
--- Crate sorting, specs/: the order of an image's records, how it is printed, and what putting a number in its place promises, lowest first.
--- Not here: any law or proof (proofs/).
+-- The definitions of crate sorting, lowest first: the order of an image's records, how it is
+-- printed, and what the private functions promise.
 pub mod Sorting
 pub mod Printing
-pub mod Steps
+pub mod Inner

@@ -1,5 +1,5 @@
--- What the ranker prints: document 01, 'Programs': the record numbers, from 0, one a line, in label order.
--- Not here: the order (specs/Sorting), the line of a refusal (crate answers). Assumes nothing.
+-- What the ranker prints (document 01, 'Programs'): the record numbers, from 0, one a line, in
+-- label order.
 use mathlib.Core.Path.{_≡_}
 use mathlib.Core.Bool.{cond}
 use mathlib.Core.List.{List, [], _∷_, _++_}
@@ -12,19 +12,20 @@ use Rattle.labels.specs.Images.{takesImage, badRecord, judgedAs, namedBy}
 use Rattle.labels.specs.declared.image.Judged.{Judged}
 use Rattle.sorting.specs.Sorting.{orderOf}
 
-abbrev pub digitOf : ℕ → ℕ
-digitOf d = 0x30 + d % 10
+abbrev pub decimalDigit : ℕ → ℕ
+decimalDigit d = 0x30 + d % 10
 
--- a number below 1000, with no needless digit: that it reads back as the number is shown (proofs/Decimals)
+-- a number below 1000, with no needless digit: that it reads back as the number is shown
+-- (proofs/Decimals)
 unfoldable pub decimalOf : ℕ → List ℕ
-decimalOf k = cond (ltb k 10) (digitOf k ∷ []) (cond (ltb k 100) (digitOf (k / 10) ∷ digitOf k ∷ []) (digitOf (k / 100) ∷ digitOf (k / 10) ∷ digitOf k ∷ []))
+decimalOf k = cond (ltb k 10) (decimalDigit k ∷ []) (cond (ltb k 100) (decimalDigit (k / 10) ∷ decimalDigit k ∷ []) (decimalDigit (k / 100) ∷ decimalDigit (k / 10) ∷ decimalDigit k ∷ []))
 
-unfoldable pub lineOf : ℕ → List ℕ
-lineOf k = decimalOf k ++ (0x0A ∷ [])
+unfoldable pub numberLine : ℕ → List ℕ
+numberLine k = decimalOf k ++ (0x0A ∷ [])
 
 -- THE LINES
 unfoldable pub printed : List ℕ → List ℕ
-printed image = each lineOf (orderOf image)
+printed image = each numberLine (orderOf image)
 
 -- THE CONTRACT of printing: 1, 6, 7, then 3; the value is the length
 pub record Prints (image out : List ℕ) (r : Judged) (out′ : List ℕ) : Type 0 where

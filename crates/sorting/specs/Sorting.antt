@@ -1,6 +1,7 @@
--- The order of an image's records: document 01, 'Programs', the ranker: in label order, records of equal rank by berth number and then record number.
--- `InOrder` says what has to be true of a list of record numbers; `orderOf` computes one, by putting each record in its place, and is shown to be it, and
--- the only one (proofs/Sorted). Not here: ranking (crate ranking), records (crate labels). Assumes nothing.
+-- The order of an image's records (document 01, 'Programs', the ranker): in label order, records of
+-- equal rank by berth number and then record number. `InOrder` says what has to be true of a list
+-- of record numbers. `orderOf` computes one, by putting each record in its place. It is proved to
+-- be in order, and to be the only list that is (proofs/Sorted).
 use mathlib.Core.Path.{_≡_}
 use mathlib.Core.Bool.{Bool, true, false, cond}
 use mathlib.Core.List.{List, [], _∷_}
@@ -47,12 +48,12 @@ placed stands k [] = k ∷ []
 placed stands k (j ∷ x) = cond (isBefore (stands j k)) (j ∷ placed stands k x) (k ∷ j ∷ x)
 
 -- the numbers from 0 on, one after the other
-unfoldable pub ordered : (ℕ → ℕ → Order) → ℕ → List ℕ
-ordered stands zero = []
-ordered stands (suc n) = placed stands n (ordered stands n)
+unfoldable pub sortedBy : (ℕ → ℕ → Order) → ℕ → List ℕ
+sortedBy stands zero = []
+sortedBy stands (suc n) = placed stands n (sortedBy stands n)
 
 abbrev pub orderOf : List ℕ → List ℕ
-orderOf image = ordered (standing image) (countOf image)
+orderOf image = sortedBy (standing image) (countOf image)
 
 -- THE CONTRACT of sorting: 1, 6, 7, then 3; of refusal 7 also which record is the lowest bad one
 pub record Orders (image out : List ℕ) (r : Judged) (out′ : List ℕ) : Type 0 where

@@ -1,8 +1,7 @@
--- The well-formed sequences, out of table 3-7. In order: sequences that follow a row to its end (`Follow`, `follow-full` and back `full-follow`,
--- `full-by`); the well-formed sequences by their lengths, with the bounds of their bytes and of the value (`Formed`, `full-formed`); and EVERY
+-- The well-formed sequences, out of table 3-7. In order: sequences that follow a row to its end
+-- (`Follow`, `follow-full` and back `full-follow`, `full-by`); the well-formed sequences by their
+-- lengths, with the bounds of their bytes and of the value (`Formed`, `full-formed`); and EVERY
 -- WELL-FORMED SEQUENCE HAS A SCALAR VALUE, no surrogate and nothing over 10FFFF (`full-good`).
--- Not here: the rows themselves (proofs/Rows), the bytes of a value (proofs/Writing, crate utf8_round).
--- Assumes nothing.
 use mathlib.Core.Path.{_≡_, refl, sym}
 use mathlib.Core.Bool.{Bool, true, false, cond}
 use mathlib.Core.Option.{none, some}

@@ -1,7 +1,10 @@
--- Crate utf8, proofs/: the laws of the table, of the well-formed sequences, of reading and of writing, lowest first.
--- Not here: the round trips (crate utf8_round), the definitions (specs/), and the proofs of the functions (crates utf8_rows, utf8_at).
+-- The laws of crate utf8. What a caller may cite is `pub mod`; functions' proofs have folders of
+-- their own.
 pub mod Rows
 pub mod Forms
 pub mod Takes
 pub mod Reading
 pub mod Writing
+pub mod Bits
+pub mod Round
+mod Ills

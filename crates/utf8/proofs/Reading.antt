@@ -1,39 +1,39 @@
--- Reading a whole text of bytes. In order: THE READING IS CHAPTER 3'S, and the only one (`reading8`, `reading8-unique`); at most as many code points as
--- bytes, and at most as many ill-formed subparts as code points (`maximal-some`, `read-most`, `ills-most`); every one is a scalar value (`read-good`,
--- `read-taken`); what the loops over a text ask (`Ills`, `next-piece`, `next-good`, `next-ills`, `read-end`, `ills-end`); the ways in which the call
--- returns (`reads-refused`, `reads-lacking`, `reads-done`); and that its answers are known by their verdicts (`read-injective`, `reads-unique`).
--- Not here: what begins at an index (proofs/Takes), the rows of the table (proofs/Rows).
--- Assumes nothing.
+-- Reading a whole text of bytes. In order: THE READING IS CHAPTER 3'S, and the only one
+-- (`reading8`, `reading8-unique`); at most as many code points as bytes, and at most as many
+-- ill-formed subparts as code points (`maximal-some`, `read-most`, `ills-most`); every one is a
+-- scalar value (`read-good`, `read-taken`); what the loops over a text ask (`Ills`, `next-piece`,
+-- `next-good`, `next-ills`, `read-end`, `ills-end`); the ways in which the call returns
+-- (`reads-refused`, `reads-lacking`, `reads-done`); and that its answers are known by their
+-- verdicts (`read-injective`, `reads-unique`).
 use mathlib.Core.Path.{_≡_, sym, _∙_, ap}
 use mathlib.Core.Bool.{false}
-use mathlib.Core.Logic.{⊎-elim}
 use mathlib.Core.List.{List, [], _∷_}
 use Prim.Native.Nat.{ℕ, _+_, _≤_}
 use native.Mathlib.Omega.{arith}
 use lib.ListN.{length, drop, length-append, drop-of-length-le}
 use Rattle.laws.specs.Lists.{All, none, also}
-use Rattle.laws.specs.Pieces.{part, Piece as PieceOf, good, ill, pieces, illCount}
+use Rattle.laws.specs.Pieces.{Piece as PieceOf, good, ill, pieces, illCount}
 use Rattle.laws.specs.Readings.{Maximal, Reading, nothing, formed, broken}
 use Rattle.laws.specs.Damage.{codes}
 use Rattle.laws.proofs.Readings.{reading, reading-pieces}
 use Rattle.laws.proofs.Filling.{Piece}
 use Rattle.answers.specs.Checks.{passes, lacking, takesText, takesBytes, bad as badCode}
 use Rattle.answers.specs.Answers.{checked}
-use Rattle.answers.specs.declared.Refusal.{Refusal}
-use Rattle.answers.specs.declared.Refusal.the-variants.{NoRoom}
-use Rattle.answers.specs.declared.Checked.{Checked}
-use Rattle.answers.specs.declared.Checked.the-variants.{Refused as CheckRefused}
+use Rattle.answers.specs.declared.refusal.Refusal.{Refusal}
+use Rattle.answers.specs.declared.refusal.Refusal.the-variants.{NoRoom}
+use Rattle.answers.specs.declared.answer.Checked.{Checked}
+use Rattle.answers.specs.declared.answer.Checked.the-variants.{Refused as CheckRefused}
 use Rattle.answers.proofs.Answers.{refusedBy-injective}
 use Rattle.answers.proofs.Checks.{good-high, good-taken, bytes-short, lacking-size, lacking-less, lacking-room}
 use Rattle.answers.proofs.Verdicts.{refused-before, refused-room, filled-whole, fills-unique}
 use Rattle.utf8.specs.Table37.{kindOf}
 use Rattle.utf8.specs.Utf8.{utf8, readText, illText}
 use Rattle.utf8.specs.Reading.{ReadFronts, readAs, Reads}
-use Rattle.utf8.specs.declared.read.Taken.{Taken}
-use Rattle.utf8.specs.declared.read.Counted.{Counted}
-use Rattle.utf8.specs.declared.read.Read.{Read}
-use Rattle.utf8.specs.declared.read.Read.the-variants.{Done, Refused}
-use Rattle.utf8.proofs.Rows.{coherent8, full-some, part-some}
+use Rattle.utf8.specs.declared.decode.Taken.{Taken}
+use Rattle.utf8.specs.declared.text.Counted.{Counted}
+use Rattle.utf8.specs.declared.text.Read.{Read}
+use Rattle.utf8.specs.declared.text.Read.the-variants.{Done, Refused}
+use Rattle.utf8.proofs.Rows.{coherent8, full-some}
 use Rattle.utf8.proofs.Forms.{full-good}
 use Rattle.utf8.proofs.Takes.{Next}
 
@@ -48,7 +48,7 @@ reading8-unique r = reading-pieces kindOf coherent8 r
 -- ---- how many
 
 pub maximal-some : (u t : List ℕ) → Maximal kindOf u t → 1 ≤ length u
-maximal-some u t m = ⊎-elim (λ (e : kindOf u ≡ part). part-some u e) (λ (e : length u ≡ 1). omega arith) (m .begins)
+maximal-some u t m = m .some
 
 reading-most : {t : List ℕ} {P : List (PieceOf ℕ)} → Reading kindOf t P → length (codes utf8 P) ≤ length t
 reading-most nothing = omega arith

@@ -1,9 +1,8 @@
--- Laws of table 3-7. In order: the row of a first byte by its range (`row-between`, `row-over`); every range of a row is that of
--- continuation bytes or a part of it, and has a byte (`row-inner`), so that 0 lies in none (`inner-least`); THE KIND OF A SEQUENCE IS COHERENT
--- (`coherent8`); a byte that is no continuation byte begins a piece (`outside`, `leads8`); what is a proper beginning really goes on to a well-formed sequence
--- (`completes`).
--- Not here: what begins at an index of a text (proofs/Takes), the values (proofs/Forms).
--- Assumes nothing.
+-- Laws of table 3-7. In order: the row of a first byte by its range (`row-between`, `row-over`);
+-- every range of a row is that of continuation bytes or a part of it, and has a byte (`row-inner`),
+-- so that 0 lies in none (`inner-least`); THE KIND OF A SEQUENCE IS COHERENT (`coherent8`); a byte
+-- that is no continuation byte begins a piece (`outside`, `leads8`); what is a proper beginning
+-- really goes on to a well-formed sequence (`completes`).
 use mathlib.Core.Path.{_≡_, refl, sym}
 use mathlib.Core.Bool.{Bool, true, false, cond, not, _&&_}
 use mathlib.Core.Logic.{⊎-elim}
@@ -16,7 +15,7 @@ use lib.Dec.{T, leb}
 use borrow.Author.Tests.{leb-true, not-true}
 use Rattle.laws.specs.Ranges.{within, look}
 use Rattle.laws.specs.Pieces.{Kind, full, part, bad}
-use Rattle.laws.specs.Readings.{Coherent}
+use Rattle.laws.specs.Readings.{Completable, Coherent}
 use Rattle.laws.specs.Damage.{Leads}
 use Rattle.laws.proofs.Bools.{T-true, and-T-left, and-T-right}
 use Rattle.laws.proofs.Ranges.{within-yes, within-below, within-above, within-not, between, uncut, look-between, look-inside}
@@ -100,9 +99,9 @@ pub part-some : (u : List ℕ) → kindOf u ≡ part → 1 ≤ length u
 part-some [] e = absurd (part-bad (sym e))
 part-some (a ∷ u) e = omega arith
 
--- ---- THE KIND IS COHERENT
+-- ---- with more bytes: what is bad stays bad, and what goes on beyond a full sequence is bad
 
--- behind a byte that was tested: what is bad behind the test is bad
+-- after a byte that was tested: what is bad after the test is bad
 tested-bad : (t : Bool) {k k′ j : Kind} → (k ≡ j → k′ ≡ bad) → cond t k bad ≡ j → cond t k′ bad ≡ bad
 tested-bad true f e = f e
 tested-bad false f e = refl
@@ -126,13 +125,6 @@ in-row-bad (some row) x y e = follows-bad row x y e
 in-row-full : (o : Option (List Bytes)) (x : List ℕ) (a : ℕ) → inRow o x ≡ full → inRow o (x ++ (a ∷ [])) ≡ bad
 in-row-full none x a e = refl
 in-row-full (some row) x a e = follows-full row x a [] e
-
-pub coherent8 : Coherent kindOf
-coherent8 = record {
-  empty = refl;
-  after-full = λ b p a e. in-row-full (rowOf b) p a e;
-  after-bad = λ b p a e. in-row-bad (rowOf b) p (a ∷ []) e;
-}
 
 -- ---- A BYTE THAT IS NO CONTINUATION BYTE BEGINS A PIECE: it lies in no range of a row
 
@@ -158,7 +150,7 @@ in-row-outside (some row) t x b e = follows-outside row (rw t tt) x b e
 pub leads8 : Leads utf8
 leads8 = record { starts = λ b e c p. in-row-outside (rowOf c) (row-checked c) p b (not-true (within 0x80 0xBF b) e) }
 
--- ---- A PROPER BEGINNING GOES ON to a well-formed sequence: for instance by the least byte of each range that is left
+-- ---- A PROPER BEGINNING GOES ON to a well-formed sequence, by the least byte of each range left
 
 abbrev leasts : List Bytes → List ℕ
 leasts [] = []
@@ -184,5 +176,15 @@ in-row-completes : (o : Option (List Bytes)) → innerRow o ≡ true → (x : Li
 in-row-completes none t x e = absurd (part-bad (sym e))
 in-row-completes (some row) t x e = follows-completes row (rw t tt) x e
 
-pub completes : (a : ℕ) (x : List ℕ) → kindOf (a ∷ x) ≡ part → (v : List ℕ) × (kindOf (a ∷ x ++ v) ≡ full)
-completes a x e = in-row-completes (rowOf a) (row-checked a) x e
+pub completes : (a : ℕ) (x : List ℕ) → kindOf (a ∷ x) ≡ part → Completable kindOf (a ∷ x)
+completes a x e = let c = in-row-completes (rowOf a) (row-checked a) x e in record { rest = c .0; completed = c .1 }
+
+-- ---- THE KIND IS COHERENT
+
+pub coherent8 : Coherent kindOf
+coherent8 = record {
+  empty = refl;
+  after-full = λ b p a e. in-row-full (rowOf b) p a e;
+  after-bad = λ b p a e. in-row-bad (rowOf b) p (a ∷ []) e;
+  completes = completes;
+}

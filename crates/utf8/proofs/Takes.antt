@@ -1,9 +1,9 @@
--- What begins at an index of a text of bytes. In order: bytes at an index (`before-end`); a sequence that is begun and not yet whole (`Stands`: the bytes a ∷ x are
--- open, and the row goes on with `row`), from its first byte (`begins-between`, `begun`) on with each byte in range (`goes-on`), to its last one (`whole-taken`) or to a
--- byte out of range or the end (`broken-taken`); the sequences of one byte (`one-taken`, `none-taken`, `end-taken`); and what taking a piece leaves
--- to be read (`behind`, `units-inside`, `Next`, `taken-next`).
--- Not here: the rows themselves (proofs/Rows), the loops over a text (proofs/Reading).
--- Assumes nothing.
+-- What begins at an index of a text of bytes. In order: bytes at an index (`before-end`); a
+-- sequence that is begun and not yet whole (`Stands`: the bytes a ∷ x are open, and the row goes on
+-- with `row`), from its first byte (`begins-between`, `begun`) on with each byte in range
+-- (`goes-on`), to its last one (`whole-taken`) or to a byte out of range or the end
+-- (`broken-taken`); the sequences of one byte (`one-taken`, `none-taken`, `end-taken`); and what
+-- taking a piece leaves to be read (`behind`, `units-inside`, `Next`, `taken-next`).
 use mathlib.Core.Path.{_≡_, refl, sym, _∙_, ap}
 use mathlib.Core.Bool.{Bool, true, false, not}
 use mathlib.Core.Option.{none, some}
@@ -23,8 +23,9 @@ use Rattle.laws.proofs.Pieces.{open-full, open-part, open-bad, goes-full, goes-
 use Rattle.laws.proofs.Seams.{Halves, seam}
 use Rattle.utf8.specs.Table37.{Bytes, _to_, table37, follows, rowOf, kindOf}
 use Rattle.utf8.specs.Utf8.{valueOf, readText, illText}
-use Rattle.utf8.specs.Reading.{goodOf, illOf, takenFrom, Begins}
-use Rattle.utf8.specs.declared.read.Taken.{Taken}
+use Rattle.utf8.specs.Reading.{goodOf, illOf, takenFrom}
+use Rattle.utf8.specs.Inner.{Begins}
+use Rattle.utf8.specs.declared.decode.Taken.{Taken}
 use Rattle.utf8.proofs.Rows.{row-between}
 
 -- ---- bytes at an index
@@ -47,13 +48,14 @@ test-false {t} e h = sym e ∙ not-true t h
 
 -- ---- a sequence that is begun
 
--- where the functions of a row promise their answer: the first byte lies between two bounds between which the table has one row
+-- what the functions of a row ask: the first byte lies between two bounds between which the table
+-- has one row
 pub begins-between : (least most : ℕ) → T (uncut least most table37) → {text : List ℕ} {at a lo hi : ℕ} → at < length text → a ≡ getD text at 0
     → least ≤ a → a ≤ most → lo ≤ least → most ≤ hi → Begins text at a (between none least most table37) lo hi
 begins-between least most t inside is h k p q =
     record { inside = inside; is = is; picks = row-between least most t h k; least = omega arith; most = omega arith }
 
--- the bytes a ∷ x at the index `at` are open, n is the index behind them, and they go on with `row`
+-- the bytes a ∷ x at the index `at` are open, n is the index after them, and they go on with `row`
 pub record Stands (text : List ℕ) (at a : ℕ) (x : List ℕ) (n : ℕ) (row : List Bytes) : Type 0 where
   pub reads : pieces kindOf (drop at text) ≡ from (cutter kindOf) (a ∷ x) (drop n text)
   pub goes : (y : List ℕ) → kindOf (a ∷ x ++ y) ≡ follows row y
@@ -65,7 +67,7 @@ begun {text} {at} {a} h = record {
   goes = λ y. rw (h .picks);
 }
 
--- b is the byte at the index m behind them
+-- b is the byte at the index m after them
 module _ {text : List ℕ} {at a n : ℕ} {x : List ℕ} {lo hi : ℕ} {row : List Bytes} (s : Stands text at a x n ((lo to hi) ∷ row)) {b m : ℕ}
     (is : b ≡ getD text m 0) (place : m ≡ n) where
   there : b ≡ getD text n 0
@@ -123,8 +125,9 @@ module _ (text : List ℕ) (at : ℕ) where
 
 -- ---- what is left to be read
 
--- r was taken at an index: what is read from there is r's code point and then what is read behind it, so are the ill-formed subparts counted, and at
--- least one byte was taken, and none behind the end
+-- r was taken at an index: what is read from there is r's code point and then what is read after
+-- it, so are the ill-formed subparts counted, and at least one byte was taken, and none after the
+-- end
 pub record Next (text : List ℕ) (at : ℕ) (r : Taken) : Type 0 where
   pub read : readText (drop at text) ≡ r .code ∷ readText (drop (at + r .size) text)
   pub ills : illText (drop at text) ≡ r .ill + illText (drop (at + r .size) text)
@@ -132,7 +135,7 @@ pub record Next (text : List ℕ) (at : ℕ) (r : Taken) : Type 0 where
   pub inside : at + r .size ≤ length text
   pub few : r .ill ≤ 1
 
--- a piece in front: behind its units the rest is read, and it has a unit
+-- a piece in front: after its units the rest is read, and it has a unit
 module _ (text : List ℕ) (at : ℕ) (w : Piece ℕ) (P : List (Piece ℕ)) (e : pieces kindOf (drop at text) ≡ w ∷ P) where
   halves : Halves kindOf (drop at text) (w ∷ []) P
   halves = seam kindOf (drop at text) (w ∷ []) P e

@@ -1,10 +1,11 @@
--- Laws of writing UTF-8: a code point's bytes in their four cases, how many they are, and the laws of a text's bytes that the loops ask.
--- Not here: that what is written reads back (crate utf8_round), stores one behind the other (crate laws, proofs/Filling).
+-- Laws of writing UTF-8: a code point's bytes in their four cases, how many they are, and the laws
+-- of a text's bytes that the loops ask.
 --
--- In order: `bytesOf` by the bounds of the code point (`bytes-one` .. `bytes-four`); its length (`long-one` .. `long-four`, `bytes-least`,
--- `bytes-most`), by a view of the four cases (`Width`); a text's bytes (`write-append`, `write-most`, `write-least`); at a loop's index
--- (`write-piece`, `write-end`, `taken-most`); the bytes that fit from an index on (`fitting-all`, `fitting-full`, `fitting-over`).
--- Assumes nothing.
+-- In order: `bytesOf` by the bounds of the code point (`bytes-one` .. `bytes-four`); its length
+-- (`long-one` .. `long-four`, `bytes-least`, `bytes-most`), by a view of the four cases (`Width`);
+-- a text's bytes (`write-append`, `write-most`, `write-least`); at a loop's index (`write-piece`,
+-- `write-end`, `taken-most`); the bytes that fit from an index on (`fitting-all`, `fitting-full`,
+-- `fitting-over`).
 use mathlib.Core.Path.{_≡_, refl, sym, ap}
 use mathlib.Core.Bool.{Bool, true, false, _&&_}
 use mathlib.Core.List.{List, [], _∷_, _++_}

@@ -1,21 +1,20 @@
--- Reading UTF-8, as the code answers it: what begins at an index, and the contract of a call that makes something of a text of bytes and counts its
--- ill-formed subparts (document 01, 'Bytes', 'Refusal numbers'). Not here: what the bytes read as (specs/Utf8). Assumes nothing.
+-- Reading UTF-8, as the code answers it: what begins at an index, and the contract of a call that
+-- makes something of a text of bytes and counts its ill-formed subparts (document 01, 'Bytes',
+-- 'Refusal numbers'). What the bytes read as stands in specs/Utf8.
 use mathlib.Core.Path.{_≡_}
-use mathlib.Core.Option.{Option}
 use mathlib.Core.List.{List, [], _∷_}
-use Prim.Native.Nat.{ℕ, _≤_, _<_}
-use lib.ListN.{length, getD, drop}
-use Rattle.laws.specs.Pieces.{Piece, good, ill, pieces}
+use Prim.Native.Nat.{ℕ}
+use lib.ListN.{length}
+use Rattle.laws.specs.Pieces.{Piece, good, ill}
 use Rattle.laws.specs.Writing.{Fronts}
 use Rattle.answers.specs.Checks.{takesBytes}
 use Rattle.answers.specs.Verdicts.{Verdict, done, Fills}
 use Rattle.answers.specs.Answers.{refusedBy}
-use Rattle.utf8.specs.Table37.{Bytes, rowOf, kindOf}
 use Rattle.utf8.specs.Utf8.{valueOf, illText}
-use Rattle.utf8.specs.declared.read.Taken.{Taken}
-use Rattle.utf8.specs.declared.read.Counted.{Counted}
-use Rattle.utf8.specs.declared.read.Read.{Read}
-use Rattle.utf8.specs.declared.read.Read.the-variants.{Done, Refused}
+use Rattle.utf8.specs.declared.decode.Taken.{Taken}
+use Rattle.utf8.specs.declared.text.Counted.{Counted}
+use Rattle.utf8.specs.declared.text.Read.{Read}
+use Rattle.utf8.specs.declared.text.Read.the-variants.{Done, Refused}
 
 -- a code point of so many bytes, and an ill-formed subpart of so many
 abbrev pub goodOf : ℕ → ℕ → Taken
@@ -30,19 +29,8 @@ takenFrom [] = goodOf 0 0
 takenFrom (good u ∷ P) = goodOf (valueOf u) (length u)
 takenFrom (ill u ∷ P) = illOf (length u)
 
--- at an index stands the first byte a, of the row `row`, between lo and hi: where the functions of a row promise their answer
-pub record Begins (text : List ℕ) (at a : ℕ) (row : Option (List Bytes)) (lo hi : ℕ) : Type 0 where
-  pub inside : at < length text
-  pub is : a ≡ getD text at 0
-  pub picks : rowOf a ≡ row
-  pub least : lo ≤ a
-  pub most : a ≤ hi
-
--- what they promise: where the row begins at the index, the first of the pieces from there on
-pub record Row (text : List ℕ) (at a : ℕ) (row : Option (List Bytes)) (lo hi : ℕ) (r : Taken) : Type 0 where
-  pub taken : Begins text at a row lo hi → r ≡ takenFrom (pieces kindOf (drop at text))
-
--- what is made of the bytes fills the front of the buffer, and what was counted is its length and the number of ill-formed subparts
+-- what is made of the bytes fills the front of the buffer, and what was counted is its length and
+-- the number of ill-formed subparts
 pub record ReadFronts (make : List ℕ → List ℕ) (text out : List ℕ) (r : Counted) (out′ : List ℕ) : Type 0 where
   pub fronts : Fronts (make text) out (r .length) out′
   pub ills : r .ills ≡ illText text
@@ -56,6 +44,7 @@ readAs (Refused r) = refusedBy r
 abbrev pub countedOf : (List ℕ → List ℕ) → List ℕ → Counted
 countedOf make text = record { length = length (make text); ills = illText text }
 
--- THE CONTRACT of a call that makes `make text` of bytes: 1, then 3; reading is the call at `readText`
+-- THE CONTRACT of a call that makes `make text` of bytes: 1, then 3; reading is the call at
+-- `readText`
 pub record Reads (make : List ℕ → List ℕ) (text out : List ℕ) (r : Read) (out′ : List ℕ) : Type 0 where
   pub fills : Fills (takesBytes text) (make text) (countedOf make text) out (readAs r) out′

@@ -1,5 +1,5 @@
--- Well-formed UTF-8 byte sequences: The Unicode Standard 15.0, chapter 3, section 3.9, table 3-7, row by row, and what the table says of a sequence.
--- Not here: the values (specs/Utf8), the reading of a whole text (crate laws, specs/Pieces and specs/Readings). Assumes nothing.
+-- Well-formed UTF-8 byte sequences: The Unicode Standard 15.0, chapter 3, section 3.9, table 3-7,
+-- row by row, and what the table says of a sequence.
 use mathlib.Core.Bool.{cond}
 use mathlib.Core.Option.{Option, none, some}
 use mathlib.Core.List.{List, [], _∷_}

@@ -1,5 +1,6 @@
--- UTF-8 as an encoding, and the code points and bytes of texts: The Unicode Standard 15.0, chapter 3, section 3.9, D92 with table 3-6 (the bits of a
--- scalar value in its bytes). Not here: which sequences are well-formed (specs/Table37). Assumes nothing.
+-- UTF-8 as an encoding form, and the code points and bytes of texts: The Unicode Standard 15.0,
+-- chapter 3, section 3.9, D92 with table 3-6 (the bits of a scalar value in its bytes). Which
+-- sequences are well-formed stands in specs/Table37.
 use mathlib.Core.Bool.{Bool, cond, not, _&&_}
 use mathlib.Core.List.{List, [], _∷_}
 use Prim.Native.Nat.{ℕ, _+_, _-_, _*_, _/_, _%_}
@@ -7,12 +8,12 @@ use lib.Dec.{ltb, leb}
 use lib.ListN.{length}
 use Rattle.laws.specs.Lists.{each}
 use Rattle.laws.specs.Ranges.{within}
-use Rattle.laws.specs.Pieces.{pieces, illCount}
+use Rattle.laws.specs.Pieces.{Piece, good, ill, pieces, illCount}
 use Rattle.laws.specs.Damage.{Encoding, codes}
 use Rattle.utf8.specs.Table37.{kindOf}
 
--- TABLE 3-6, from the bytes to the value: of each byte the bits that are not its marker, six from every byte but the first. A sequence of any other
--- length is never well-formed
+-- TABLE 3-6, from the bytes to the value: the bits of each byte that are not its marker, six from
+-- every byte but the first. A sequence of any other length is never well-formed
 abbrev pub valueOf : List ℕ → ℕ
 valueOf [] = 0
 valueOf (a ∷ []) = a
@@ -36,17 +37,28 @@ leads b = not (within 0x80 0xBF b)
 abbrev pub utf8 : Encoding ℕ
 utf8 = record { kind = kindOf; code = valueOf; lead = leads }
 
--- reading a text of bytes: its code points, each ill-formed maximal subpart one FFFD, and how many of these there are
+-- reading a text of bytes: its code points, with one FFFD for each ill-formed maximal subpart; and
+-- how many of these there are
 abbrev pub readText : List ℕ → List ℕ
 readText bytes = codes utf8 (pieces kindOf bytes)
 
 abbrev pub illText : List ℕ → ℕ
 illText bytes = illCount (pieces kindOf bytes)
 
+-- the index of the first ill-formed subpart, or the length of the text if there is none
+abbrev pub illIn : List (Piece ℕ) → ℕ
+illIn [] = 0
+illIn (good u ∷ P) = length u + illIn P
+illIn (ill u ∷ P) = 0
+
+unfoldable pub firstIll : List ℕ → ℕ
+firstIll text = illIn (pieces kindOf text)
+
 -- writing a text of code points
 abbrev pub writeText : List ℕ → List ℕ
 writeText text = each bytesOf text
 
--- the bytes of one code point, where a buffer has room for all of them from an index on, else none; nor are there any of a number over 10FFFF
+-- the bytes of a code point, if a buffer has room for all of them from an index on; else none. A
+-- number over 10FFFF has none
 unfoldable pub fitting : ℕ → List ℕ → ℕ → List ℕ
 fitting c out at = cond (leb c 0x10FFFF && leb (at + length (bytesOf c)) (length out)) (bytesOf c) []

@@ -1,3 +1,16 @@
-// UTF-8: its definitions and laws, and the answers of calls that read bytes.
-// Not here: what begins at an index (crates utf8_rows, utf8_at), reading and writing a text (utf8_read, utf8_write), the round trips (utf8_round), both in one pass with joining (crate mending).
-pub mod read;
+// UTF-8 (document 01, 'Bytes'; The Unicode Standard, section 3.9).
+mod decode;
+mod encode;
+mod text;
+
+pub use decode::Taken;
+pub use decode::byte_at;
+pub use decode::first_ill;
+pub use decode::is_continuation;
+pub use decode::read_at;
+pub use encode::put_at;
+pub use encode::size_of;
+pub use text::Counted;
+pub use text::Read;
+pub use text::read_text;
+pub use text::write_text;

@@ -1,5 +1,6 @@
-// vectors: answers test vectors, a line of standard input each, with a line of standard output each. It judges no answer: the gate compares
-// them with crates/vectors/stdout, which tests/vectors makes from the published files. Not here: the words (words).
+// vectors: answers test vectors, each line of standard input with a line of standard output. It
+// judges no answer: the gate compares them with crates/vectors/stdout, which tests/vectors makes
+// from the published files.
 mod operand;
 mod put;
 mod single;
@@ -21,8 +22,8 @@ fn answer_line(line: &[u8], held: usize) {
     words::answer(&line[..held]);
 }
 
-// Holds a byte behind those that are held, and says how many are held then; they stay as many as
-// the buffer has where a line is too long for it.
+// Holds a byte after those that are held, and says how many are held then: as many as the buffer
+// has if a line is too long for it.
 fn hold(byte: u8, line: &mut [u8], held: usize) -> usize {
     if held < line.len() {
         line[held] = byte;
@@ -42,7 +43,7 @@ fn take(byte: u8, line: &mut [u8], held: usize) -> usize {
     hold(byte, line, held)
 }
 
-// Answers the lines that end in a block, and holds what stands behind the last of them.
+// Answers the lines that end in a block, and holds what comes after the last of them.
 fn take_block(block: &[u8], line: &mut [u8], before: usize) -> usize {
     let mut held = before;
     let mut i = 0;
@@ -53,7 +54,8 @@ fn take_block(block: &[u8], line: &mut [u8], before: usize) -> usize {
     held
 }
 
-// What stands behind the last line feed is no line: it shows, so that a cut input is found.
+// What comes after the last line feed is no line: it is answered as such, so that a cut input
+// shows.
 fn answer_rest(held: usize) {
     if held == 0 {
         return;
@@ -62,8 +64,8 @@ fn answer_rest(held: usize) {
     put::byte(b'\n');
 }
 
-// A proved loop has to end, and nothing says that the input does: it counts its turns down from a
-// number that no run uses up.
+// A proved loop has to end, and nothing says that the input does: this one counts its turns down
+// from a number that no run uses up.
 fn main() {
     let mut block = [0u8; BLOCK];
     let mut line = [0u8; LINE];

@@ -1,5 +1,5 @@
-// Reading operands: numbers in capital hex with single spaces between. What is wrongly formed is found before a number of it is answered.
-// Not here: what the numbers are for (texts, single).
+// Reading operands: numbers in capital hex with single spaces between. A field that is not well
+// formed is found before any number of it is answered.
 ghost use Prim.Native.Nat.{_≤_};
 ghost use lib.ListN.{length};
 
@@ -13,9 +13,9 @@ const LARGE: u32 = 0x10_0000;
 const WRONG: usize = 7;
 
 // What `code` says of a field that is no code: more than six digits say.
-pub const NO_CODE: u32 = 0x100_0000;
+pub(crate) const NO_CODE: u32 = 0x100_0000;
 
-// A number, and the index behind its digits.
+// A number, and the index after its digits.
 struct Number {
     value: u32,
     behind: usize,
@@ -32,8 +32,8 @@ fn digit_of(byte: u8) -> u32
     }
 }
 
-// How many digits of a number are read with `byte`, where `digits` were before: none with a byte
-// that stands between two numbers. What is wrongly formed stays so.
+// How many digits of a number are read with `byte`, if `digits` were read before it: none with a
+// byte between two numbers. What is not well formed stays so.
 fn digits_with(byte: u8, digits: usize, fewest: usize, most: usize, mark: u8) -> usize {
     if digit_of(byte) != NONE {
         if most <= digits {
@@ -50,7 +50,7 @@ fn digits_with(byte: u8, digits: usize, fewest: usize, most: usize, mark: u8) ->
     0
 }
 
-// Whether a field is numbers, each of `fewest` to `most` digits, with a space or a `mark` between.
+// Is a field numbers, each of `fewest` to `most` digits, with a space or a `mark` between?
 fn are_numbers(field: &[u8], fewest: usize, most: usize, mark: u8) -> bool {
     let mut digits = 0;
     let mut i = 0;
@@ -61,8 +61,8 @@ fn are_numbers(field: &[u8], fewest: usize, most: usize, mark: u8) -> bool {
     digits_with(b' ', digits, fewest, most, mark) == 0
 }
 
-// Whether operands are texts of codes with `;` between.
-pub fn are_texts(operands: &[u8]) -> bool {
+// Are operands texts of codes with `;` between?
+pub(crate) fn are_texts(operands: &[u8]) -> bool {
     are_numbers(operands, 4, 6, b';')
 }
 
@@ -87,7 +87,7 @@ fn number_at(field: &[u8], from: usize) -> Number
 }
 
 // A field that is one code, of four to six digits.
-pub fn code(field: &[u8]) -> u32 {
+pub(crate) fn code(field: &[u8]) -> u32 {
     let number = number_at(field, 0);
     if number.behind < field.len() {
         return NO_CODE;
@@ -98,8 +98,8 @@ pub fn code(field: &[u8]) -> u32 {
     number.value
 }
 
-// Reads the codes of a text, and says how many they are: 0 where it has more than `out`.
-pub fn codes(text: &[u8], out: &mut [u32]) -> usize
+// Reads the codes of a text, and says how many they are: 0 if it has more than `out`.
+pub(crate) fn codes(text: &[u8], out: &mut [u32]) -> usize
     ensures { λ r. ⌜ r ≤ length (now (out .exit)) ⌝ }
 {
     let mut at = 0;
@@ -136,8 +136,8 @@ fn read_bytes(field: &[u8], out: &mut [u8]) -> usize
     0
 }
 
-// The bytes of a field: 0 also where it is wrongly formed.
-pub fn bytes(field: &[u8], out: &mut [u8]) -> usize
+// Reads the bytes of a field, and says how many: 0 also if it is not well formed.
+pub(crate) fn bytes(field: &[u8], out: &mut [u8]) -> usize
     ensures { λ r. ⌜ r ≤ length (now (out .exit)) ⌝ }
 {
     if are_numbers(field, 2, 2, b' ') {
@@ -146,8 +146,8 @@ pub fn bytes(field: &[u8], out: &mut [u8]) -> usize
     0
 }
 
-// The index of the first such byte, or the length where there is none.
-pub fn find(text: &[u8], wanted: u8) -> usize
+// The index of the first such byte, or the length if there is none.
+pub(crate) fn find(text: &[u8], wanted: u8) -> usize
     ensures { λ r. ⌜ r ≤ length (now (text .entry)) ⌝ }
 {
     let mut i = 0;

@@ -1,25 +1,25 @@
-// Writing an answer to standard output, each piece at once: a buffer lent through all these functions would make their check long. Whether a write was
-// possible nobody can be told. Not here: what is answered (texts, single), and the line feed behind it (main).
+// Writing an answer to standard output, each piece at once: a buffer lent through all these
+// functions would make their check long. Nobody is told if a write fails.
 use answers::Refusal;
 ghost use Prim.Native.Nat.{_≤_};
 
-pub fn bytes(text: &[u8]) {
+pub(crate) fn bytes(text: &[u8]) {
     io::write_all(libc::STDOUT_FILENO, text);
 }
 
-pub fn byte(value: u8) {
+pub(crate) fn byte(value: u8) {
     let text = [value];
     bytes(&text);
 }
 
 // The answer of what is no vector: a word says so before it writes anything else.
-pub fn no_vector() {
+pub(crate) fn no_vector() {
     bytes(b"not a vector");
 }
 
-// The first `size` bytes of a text. That they are there is the library's to see to; where they are
+// Writes the first `size` bytes of a text. The library promises that they are there; if they are
 // not, it shows.
-pub fn front(text: &[u8], size: usize) {
+pub(crate) fn front(text: &[u8], size: usize) {
     if text.len() < size {
         no_vector();
         return;
@@ -47,7 +47,7 @@ fn spared(code: u32) -> usize
 }
 
 // A code in four to six digits. One that needs more is none, and shows.
-pub fn code(code: u32) {
+pub(crate) fn code(code: u32) {
     if 0x100_0000 <= code {
         no_vector();
         return;
@@ -64,7 +64,7 @@ pub fn code(code: u32) {
     bytes(&digits[from..]);
 }
 
-// What stands before a code of a text: a space, and nothing before the first.
+// What comes before a code of a text: a space, and nothing before the first.
 fn gap(index: usize) {
     if index == 0 {
         return;
@@ -73,7 +73,7 @@ fn gap(index: usize) {
 }
 
 // The first `count` codes, with single spaces between.
-pub fn codes(codes: &[u32], count: usize) {
+pub(crate) fn codes(codes: &[u32], count: usize) {
     if codes.len() < count {
         no_vector();
         return;
@@ -87,8 +87,8 @@ pub fn codes(codes: &[u32], count: usize) {
 }
 
 // A refusal as `refused`, its number and its place.
-pub fn refusal(refusal: Refusal) {
-    let told = answers_told::tell(refusal);
+pub(crate) fn refusal(refusal: Refusal) {
+    let told = answers::tell(refusal);
     bytes(b"refused ");
     io::print_decimal(libc::STDOUT_FILENO, told.number as u64);
     byte(b' ');

@@ -1,12 +1,12 @@
-// The words with one operand: step and name take a code, read a name, utf8 bytes. Each writes its answer.
-// Not here: the words that take several texts (texts).
+// The words with one operand: step and name take a code, read a name, utf8 bytes. Each writes its
+// answer.
 use crate::operand;
 use crate::put;
 use answers::Filled;
-use letters::step::Parts;
-use letters::step::Stepped;
-use names::named::Named;
-use utf8::read::Read;
+use letters::Parts;
+use letters::Stepped;
+use names::Named;
+use utf8::Read;
 
 // No name of a syllable is longer.
 const NAME: usize = 23;
@@ -25,27 +25,27 @@ fn put_parts(parts: Parts) {
     }
 }
 
-pub fn step(operand: &[u8]) {
+pub(crate) fn step(operand: &[u8]) {
     let code = operand::code(operand);
     if code == operand::NO_CODE {
         put::no_vector();
         return;
     }
-    let stepped = letters_step::one_step(code);
+    let stepped = letters::one_step(code);
     match stepped {
         Stepped::Into(parts) => put_parts(parts),
         Stepped::Refused(refusal) => put::refusal(refusal),
     }
 }
 
-pub fn name(operand: &[u8]) {
+pub(crate) fn name(operand: &[u8]) {
     let code = operand::code(operand);
     if code == operand::NO_CODE {
         put::no_vector();
         return;
     }
     let mut bytes = [0u8; NAME];
-    let filled = names_naming::name(code, &mut bytes);
+    let filled = names::name(code, &mut bytes);
     match filled {
         Filled::Done(length) => put::front(&bytes, length),
         Filled::Refused(refusal) => put::refusal(refusal),
@@ -53,15 +53,15 @@ pub fn name(operand: &[u8]) {
 }
 
 // Any bytes are a name to be read, none too.
-pub fn read(name: &[u8]) {
-    let named = names_reading::read_name(name);
+pub(crate) fn read(name: &[u8]) {
+    let named = names::read_name(name);
     match named {
         Named::Syllable(code) => put::code(code),
         Named::Refused(refusal) => put::refusal(refusal),
     }
 }
 
-pub fn utf8(operand: &[u8]) {
+pub(crate) fn utf8(operand: &[u8]) {
     let mut bytes = [0u8; BYTES];
     let count = operand::bytes(operand, &mut bytes);
     if count == 0 {
@@ -69,7 +69,7 @@ pub fn utf8(operand: &[u8]) {
         return;
     }
     let mut made = [0u32; BYTES];
-    let read = utf8_read::read_text(&bytes[..count], &mut made);
+    let read = utf8::read_text(&bytes[..count], &mut made);
     match read {
         Read::Done(counted) => put::codes(&made, counted.length),
         Read::Refused(refusal) => put::refusal(refusal),

@@ -1,5 +1,5 @@
-// The words that make a text of code points of a text of code points: join, parts, simple, gather, groups. Each field of the line is a text, and is answered in a
-// field. Not here: the other words (single).
+// The words that make a text of code points of a text of code points: join, parts, simple, gather,
+// groups. Each field of the line is a text, and is answered in a field.
 use crate::operand;
 use crate::put;
 use answers::Filled;
@@ -11,7 +11,7 @@ const CODES: usize = 64;
 // Seven for each code: no call of document 01 makes more.
 const MADE: usize = 7 * CODES;
 
-pub enum Text {
+pub(crate) enum Text {
     Join,
     Parts,
     Simple,
@@ -21,11 +21,11 @@ pub enum Text {
 
 fn make(call: Text, text: &[u32], made: &mut [u32]) -> Filled {
     match call {
-        Text::Join => joining_text::join(text, made),
-        Text::Parts => letters_apart::full_parts(text, made),
-        Text::Simple => clusters_simple::simple_form(text, made),
-        Text::Gather => clusters_gathered::gathered_form(text, made),
-        Text::Groups => fillers_text::turn(text, made),
+        Text::Join => joining::join(text, made),
+        Text::Parts => letters::full_parts(text, made),
+        Text::Simple => clusters::simple_form(text, made),
+        Text::Gather => clusters::gathered_form(text, made),
+        Text::Groups => fillers::turn(text, made),
     }
 }
 
@@ -45,9 +45,9 @@ fn answer_field(call: Text, field: &[u8]) {
     }
 }
 
-// Answers every field. One that is wrongly formed leaves no answer to any, so nothing is written
+// Answers every field. If one is not well formed none is answered, so nothing is written
 // before all are known to be texts.
-pub fn each(call: Text, operands: &[u8]) {
+pub(crate) fn each(call: Text, operands: &[u8]) {
     if !operand::are_texts(operands) {
         put::no_vector();
         return;

@@ -1,5 +1,5 @@
-// The words of a vector, and the answer of a line. A new word gets a line in `word_of` and an arm in `call`; one that makes a text of a
-// text only a case and an arm in texts. Not here: what a word does with its operands (texts, single).
+// The words of a vector, and the answer of a line. A new word gets a line in `word_of` and an arm
+// in `call`; one that makes a text of a text gets only a case and an arm in texts.
 use crate::operand;
 use crate::put;
 use crate::single;
@@ -9,25 +9,26 @@ use crate::texts::Text;
 // A line is a word, a space and operands. A code is capital hex of four to six digits, a text codes
 // with single spaces between. A refusal is answered `refused N PLACE`.
 enum Word {
-    // `join A;B;..`, and so parts, simple, gather and groups: texts; a text or a refusal for each, with `;` between.
+    // `join A;B;..`, and so parts, simple, gather and groups: texts; a text or a refusal for each,
+    // with `;` between.
     Text(Text),
     // `step C`: a code; one or two codes.
     Step,
     // `name C`: a code; the name.
     Name,
-    // `read TEXT`: all that stands behind the space; the code of the syllable.
+    // `read TEXT`: all that comes after the space; the code of the syllable.
     Read,
     // `utf8 XX XX ..`: bytes in capital hex of two digits; the text that they read as.
     Utf8,
-    // Any other word: `not a vector`, as every line that is wrongly formed.
+    // Any other word: `not a vector`, as for every line that is not well formed.
     Unknown,
 }
 
 // With a number from here on, one byte more would not fit.
 const LONG: u64 = 0x100_0000_0000_0000;
 
-// A word as one number: a 1, so that a zero in front counts, and the bytes behind it. One of more
-// than seven bytes is 0, which no other is.
+// A word as one number: a 1, so that a zero in front counts, and then its bytes. A word of more
+// than seven bytes is 0, and no other is.
 fn number_of(word: &[u8]) -> u64 {
     let mut number: u64 = 1;
     let mut i = 0;
@@ -79,7 +80,7 @@ fn call(word: Word, operands: &[u8]) {
 }
 
 // The same of a line: the word ends at the first space, and without one there is no operand.
-pub fn answer(line: &[u8]) {
+pub(crate) fn answer(line: &[u8]) {
     let size = operand::find(line, b' ');
     if line.len() <= size {
         put::no_vector();

@@ -1,5 +1,4 @@
 -- `calls::all_calls` is safe and ends: the turns fall, and each call keeps the lengths.
--- Assumes nothing.
 use mathlib.Core.Path.{_≡_}
 use lib.ListN.{length}
 use borrow.Author.Needs.{needs}

@@ -1,5 +1,4 @@
 -- `calls::main` is safe: the buffers are as long as they say.
--- Assumes nothing.
 use mathlib.Core.Path.{sym}
 use Prim.Native.Nat.{ℕ}
 use lib.ListN.{length-replicate}

@@ -1,5 +1,4 @@
 -- `calls::read_elements` is safe: the part that is read into is as long as it says.
--- Assumes nothing.
 use mathlib.Core.Path.{sym}
 use native.Mathlib.Omega.{arith}
 use lib.Seq.{length-take-le}

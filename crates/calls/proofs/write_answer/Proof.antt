@@ -1,5 +1,4 @@
 -- `calls::write_answer` is safe: the parts that are lent on are as long as they say.
--- Assumes nothing.
 use mathlib.Core.Path.{sym}
 use native.Mathlib.Omega.{arith}
 use lib.Seq.{length-take-le}

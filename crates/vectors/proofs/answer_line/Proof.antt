@@ -1,5 +1,4 @@
 -- `vectors::answer_line` is safe: the line that is lent on is as long as it says.
--- Assumes nothing.
 use mathlib.Core.Path.{sym}
 use native.Mathlib.Omega.{arith}
 use lib.Seq.{length-take-le}

@@ -1,5 +1,4 @@
 -- `vectors::main` is safe and ends: the turns fall, and each call keeps the lengths.
--- Assumes nothing.
 use mathlib.Core.Path.{_≡_, sym}
 use native.Mathlib.Omega.{arith}
 use lib.ListN.{length}

@@ -1,5 +1,4 @@
 -- `vectors::take_block` is safe and ends. The loop keeps the length.
--- Assumes nothing.
 use mathlib.Core.Path.{_≡_}
 use Prim.Native.Nat.{_-_}
 use lib.ListN.{length}

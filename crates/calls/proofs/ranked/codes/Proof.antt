@@ -1,5 +1,4 @@
 -- `calls::ranked::codes` is safe: the two parts of the text that are lent are as long as they say.
--- Assumes nothing.
 use mathlib.Core.Path.{sym}
 use native.Mathlib.Omega.{arith}
 use lib.Seq.{length-take-le}
@@ -7,8 +6,8 @@ use borrow.Author.Needs.{needs}
 use Rattle.calls.proofs.ranked.codes.Statement.{statement}
 use Rattle.calls.proofs.ranked.codes.Tie as tie
 
-end-of-requires : tie.Need-end-of-requires
-end-of-requires c κs = search needs
+at-most-requires : tie.Need-at-most-requires
+at-most-requires c κs = search needs
 
 slice-aggregate-rank : tie.Need-slice-aggregate-rank
 slice-aggregate-rank c = sym (length-take-le _ _ (omega arith))
@@ -38,7 +37,7 @@ pub codes-spec : {M : Type 1} → statement M
 codes-spec =
     tie.close
     (tie.spec
-    end-of-requires
+    at-most-requires
     slice-aggregate-rank
     mul-rank
     sub-rank

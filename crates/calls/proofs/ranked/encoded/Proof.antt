@@ -1,5 +1,5 @@
--- `calls::ranked::encoded` is safe: the two parts of the text that are lent are as long as they say.
--- Assumes nothing.
+-- `calls::ranked::encoded` is safe: the two parts of the text that are lent are as long as they
+-- say.
 use mathlib.Core.Path.{sym}
 use native.Mathlib.Omega.{arith}
 use lib.Seq.{length-take-le}
@@ -7,23 +7,23 @@ use borrow.Author.Needs.{needs}
 use Rattle.calls.proofs.ranked.encoded.Statement.{statement}
 use Rattle.calls.proofs.ranked.encoded.Tie as tie
 
-end-of-requires : tie.Need-end-of-requires
-end-of-requires c κs = search needs
+at-most-requires : tie.Need-at-most-requires
+at-most-requires c κs = search needs
 
-slice-aggregate-rank : tie.Need-slice-aggregate-rank
-slice-aggregate-rank c = sym (length-take-le _ _ (omega arith))
+slice-aggregate-rank-bytes : tie.Need-slice-aggregate-rank-bytes
+slice-aggregate-rank-bytes c = sym (length-take-le _ _ (omega arith))
 
-sub-rank : tie.Need-sub-rank
-sub-rank c = search needs
+sub-rank-bytes : tie.Need-sub-rank-bytes
+sub-rank-bytes c = search needs
 
-part-rank-start : tie.Need-part-rank-start
-part-rank-start c = search needs
+part-rank-bytes-start : tie.Need-part-rank-bytes-start
+part-rank-bytes-start c = search needs
 
-part-rank-end : tie.Need-part-rank-end
-part-rank-end c = search needs
+part-rank-bytes-end : tie.Need-part-rank-bytes-end
+part-rank-bytes-end c = search needs
 
-rank-requires : tie.Need-rank-requires
-rank-requires c κs = search needs
+rank-bytes-requires : tie.Need-rank-bytes-requires
+rank-bytes-requires c κs = search needs
 
 replied-requires : tie.Need-replied-requires
 replied-requires c κs = search needs
@@ -35,11 +35,11 @@ pub encoded-spec : {M : Type 1} → statement M
 encoded-spec =
     tie.close
     (tie.spec
-    end-of-requires
-    slice-aggregate-rank
-    sub-rank
-    part-rank-start
-    part-rank-end
-    rank-requires
+    at-most-requires
+    slice-aggregate-rank-bytes
+    sub-rank-bytes
+    part-rank-bytes-start
+    part-rank-bytes-end
+    rank-bytes-requires
     replied-requires
     returns)

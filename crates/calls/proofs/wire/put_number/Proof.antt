@@ -1,5 +1,4 @@
 -- `calls::wire::put_number` is safe: a store keeps the length, so the next index is below it too.
--- Assumes nothing.
 use mathlib.Core.Path.{_≡_}
 use Prim.Native.Nat.{_-_}
 use native.Mathlib.Omega.{arith}

@@ -1,5 +1,5 @@
--- `labels::image::check_number` meets its contract: no whole number of records, a number that is not in it, or it is there.
--- Assumes nothing.
+-- `labels::image::check_number` meets its contract: no whole number of records, a number that is
+-- not in the image, or one that is.
 use native.Mathlib.Omega.{arith}
 use Rattle.labels.proofs.Images.{number-uneven, number-beyond, number-in}
 use mathlib.Core.Path.{sym}

@@ -1,5 +1,4 @@
 -- `labels::layout::fresh` meets its contract: 96 zeros are the fresh record.
--- Assumes nothing.
 use Rattle.labels.specs.Records.{freshRecord}
 use mathlib.Core.Path.{refl}
 use Rattle.labels.proofs.layout.fresh.Statement.{statement}

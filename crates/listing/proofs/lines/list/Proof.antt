@@ -1,5 +1,5 @@
--- `listing::lines::list` meets its contract: the check refuses, or it finds what is lacking, and refuses 3 or writes.
--- Assumes nothing.
+-- `listing::lines::list` meets its contract: the check refuses; or it finds what is lacking, and
+-- refuses 3 or writes.
 use Rattle.answers.proofs.Verdicts.{checks-passed}
 use Rattle.listing.proofs.Calls.{lists-refused, lists-lacking, lists-done}
 use Rattle.answers.proofs.Checks.{bytes-short, lacking-room}

@@ -1,11 +1,11 @@
--- `listing::lines::list_into` meets its contract: the loop's invariant: what is written and what is left to be read make up the list.
--- Assumes nothing.
+-- `listing::lines::list_into` meets its contract. The loop's invariant: what is written and what is
+-- left to be read make up the list.
 use Prim.Native.Nat.{_-_}
 use native.Mathlib.Omega.{arith}
 use lib.ListN.{length}
 use Rattle.laws.proofs.Filling.{filling-length}
 use Rattle.mending.proofs.Characters.{character-next}
-use Rattle.listing.proofs.Turns.{Writing, writing-none, writing-more, writing-all}
+use Rattle.listing.proofs.Turns.{Writing, writing-none, line-room, writing-more, writing-all}
 use borrow.Author.Needs.{needs}
 use Rattle.listing.proofs.lines.list_into.Statement.{statement}
 use Rattle.listing.proofs.lines.list_into.Tie as tie
@@ -23,7 +23,10 @@ character-at-requires : tie.Need-character-at-requires Inv-loop μ-loop
 character-at-requires c κs = search needs
 
 put-line-requires : tie.Need-put-line-requires Inv-loop μ-loop
-put-line-requires c κs = search needs
+put-line-requires c κs =
+    let turn = c .before in
+    line-room _ (turn .before .before .loop .inv) (turn .before .before .before .before .before .pre .1)
+    (character-next _ _ (turn .before .loop-test .taken) (turn .character-at .ensures))
 
 add-read : tie.Need-add-read Inv-loop μ-loop
 add-read c =

@@ -1,5 +1,5 @@
--- `listing::lines::list_lacking` meets its contract: ten for each byte do, or the length is counted.
--- Assumes nothing.
+-- `listing::lines::list_lacking` meets its contract: ten for each byte are enough, or the length is
+-- counted.
 use native.Mathlib.Omega.{arith}
 use Rattle.answers.proofs.Checks.{lacking-none, lacking-counted}
 use Rattle.listing.proofs.Bound.{listed-most}
@@ -16,11 +16,11 @@ returns c = lacking-none _ _ (omega (arith, listed-most (c .before .before .args
 listed-count-requires : tie.Need-listed-count-requires
 listed-count-requires c κs = search needs
 
-returns-2 : tie.Need-returns-2
-returns-2 c = lacking-counted _ _ (c .before .listed-count .ensures) (c .if2 .taken)
+lacking-requires : tie.Need-lacking-requires
+lacking-requires c κs = search needs
 
-returns-3 : tie.Need-returns-3
-returns-3 c = lacking-none _ _ (omega (arith, c .before .listed-count .ensures, c .if2 .left))
+returns-2 : tie.Need-returns-2
+returns-2 c = lacking-counted _ _ (c .before .listed-count .ensures) (c .lacking .ensures)
 
 pub list-lacking-spec : {M : Type 1} → statement M
-list-lacking-spec = tie.close (tie.spec mul-if1 returns listed-count-requires returns-2 returns-3)
+list-lacking-spec = tie.close (tie.spec mul-if1 returns listed-count-requires lacking-requires returns-2)

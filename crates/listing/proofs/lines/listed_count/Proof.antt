@@ -1,12 +1,11 @@
--- `listing::lines::listed_count` meets its contract: the loop's invariant: what is counted and what is left to be read make up the list,
--- and the place for a line is as long as it was.
--- Assumes nothing.
+-- `listing::lines::listed_count` meets its contract. The loop's invariant: what is counted and what
+-- is left to be read make up the list, and the place for a line is as long as it was.
 use mathlib.Core.Path.{refl}
 use Prim.Native.Nat.{_-_}
 use native.Mathlib.Omega.{arith}
 use lib.ListN.{length as lengthOf}
 use Rattle.mending.proofs.Characters.{character-next}
-use Rattle.listing.proofs.Turns.{Tallying, tallying-none, tallying-fits, tallying-more, tallying-all}
+use Rattle.listing.proofs.Turns.{Tallying, tallying-none, place-room, tallying-fits, tallying-more, tallying-all}
 use borrow.Author.Needs.{needs}
 use Rattle.listing.proofs.lines.listed_count.Statement.{statement}
 use Rattle.listing.proofs.lines.listed_count.Tie as tie
@@ -27,7 +26,7 @@ slice-aggregate-put-line : tie.Need-slice-aggregate-put-line Inv-loop μ-loop
 slice-aggregate-put-line c = c .before .before .before .loop .inv .place
 
 put-line-requires : tie.Need-put-line-requires Inv-loop μ-loop
-put-line-requires c κs = search needs
+put-line-requires c κs = place-room _ (c .before .before .before .loop .inv) _
 
 add-length : tie.Need-add-length Inv-loop μ-loop
 add-length c =

@@ -1,5 +1,4 @@
 -- `vectors::operand::are_numbers` is safe and ends. The loop keeps the index within the field.
--- Assumes nothing.
 use Prim.Native.Nat.{_≤_, _-_}
 use lib.ListN.{length}
 use borrow.Author.Needs.{needs}

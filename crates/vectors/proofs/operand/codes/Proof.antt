@@ -1,5 +1,5 @@
--- `vectors::operand::codes` meets its contract and ends. The loop keeps the length, and its count is at most that.
--- Assumes nothing.
+-- `vectors::operand::codes` meets its contract and ends. The loop keeps the length, and its count
+-- is at most that.
 use mathlib.Core.Path.{_≡_}
 use Prim.Native.Nat.{_≤_, _-_}
 use native.Mathlib.Omega.{arith}

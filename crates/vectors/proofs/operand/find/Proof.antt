@@ -1,5 +1,5 @@
--- `vectors::operand::find` meets its contract and ends. The loop's invariant: the index is at most the length.
--- Assumes nothing.
+-- `vectors::operand::find` meets its contract and ends. The loop's invariant: the index is at most
+-- the length.
 use Prim.Native.Nat.{_≤_, _-_}
 use lib.ListN.{length}
 use borrow.Author.Needs.{needs}

@@ -1,5 +1,5 @@
--- `vectors::operand::number_at` meets its contract and ends. The loop's invariant: six digits, so that one more never wraps.
--- Assumes nothing.
+-- `vectors::operand::number_at` meets its contract and ends. The loop's invariant: six digits, so
+-- that one more never wraps.
 use Prim.Native.Nat.{_≤_, _<_, _-_}
 use lib.ListN.{length}
 use borrow.Author.Needs.{needs}

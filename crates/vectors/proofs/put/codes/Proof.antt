@@ -1,5 +1,4 @@
 -- `vectors::put::codes` is safe and ends. The loop keeps the index within the count.
--- Assumes nothing.
 use Prim.Native.Nat.{_≤_, _-_}
 use borrow.Author.Needs.{needs}
 use Rattle.vectors.proofs.put.codes.Statement.{statement}

@@ -1,5 +1,4 @@
 -- `vectors::put::front` is safe: the part that is written is as long as it says.
--- Assumes nothing.
 use mathlib.Core.Path.{sym}
 use native.Mathlib.Omega.{arith}
 use lib.Seq.{length-take-le}

@@ -1,5 +1,4 @@
 -- `vectors::single::utf8` is safe: the part that is lent on is as long as it says.
--- Assumes nothing.
 use mathlib.Core.Path.{sym}
 use native.Mathlib.Omega.{arith}
 use lib.Seq.{length-take-le}

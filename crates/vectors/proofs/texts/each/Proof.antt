@@ -1,5 +1,4 @@
--- `vectors::texts::each` is safe and ends: each turn goes on behind its field.
--- Assumes nothing.
+-- `vectors::texts::each` is safe and ends: each turn goes on after its field.
 use mathlib.Core.Path.{sym}
 use Prim.Native.Nat.{_≤_, _+_, _-_}
 use native.Mathlib.Omega.{arith}

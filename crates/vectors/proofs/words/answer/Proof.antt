@@ -1,5 +1,4 @@
--- `vectors::words::answer` is safe: the word ends within the line, and so begins what stands behind it.
--- Assumes nothing.
+-- `vectors::words::answer` is safe: the word ends within the line, and the rest begins within it.
 use mathlib.Core.Path.{sym}
 use native.Mathlib.Omega.{arith}
 use lib.Seq.{length-take-le}

@@ -1,5 +1,4 @@
 -- `vectors::words::number_of` is safe and ends. The loop keeps the index within the word.
--- Assumes nothing.
 use Prim.Native.Nat.{_≤_, _-_}
 use native.Mathlib.Omega.{arith}
 use lib.ListN.{length}

@@ -1,0 +1,114 @@
+-- What the functions that gather promise. In order: the spans in which a cluster is looked for
+-- (`Covers`, `Spans`), what the search answers (`Searched`, `orZero`); gathering as a machine that
+-- carries the letters not yet decided, and a step of it; joining after it, and the parts of each
+-- code point before it, as one machine (`coded`); what is written with both states by value
+-- (`Joined`, `Turned`).
+use mathlib.Core.Path.{_≡_}
+use mathlib.Core.Option.{Option, none, some}
+use mathlib.Core.List.{List, [], _∷_}
+use Prim.Native.Nat.{ℕ, _≤_, _<_}
+use Rattle.laws.specs.Machines.{Machine, behind, fed, outs, ends}
+use Rattle.joining.specs.Joining.{joiner}
+use Rattle.joining.specs.Answers.{emitted}
+use Rattle.joining.specs.declared.joiner.Open.{Open}
+use Rattle.clusters.specs.Table.{lettersOf}
+use Rattle.clusters.specs.Simple.{simpleOf}
+use Rattle.clusters.specs.Rows.{rowBy}
+use Rattle.clusters.specs.Gathering.{twoOf, threeOf, longest}
+use Rattle.clusters.specs.declared.table.Row.{Row}
+use Rattle.clusters.specs.declared.gather.Span.{Span}
+use Rattle.clusters.specs.declared.gather.Pending.{Pending}
+use Rattle.clusters.specs.declared.gather.Pending.the-variants.{Nothing, One, Two}
+use Rattle.clusters.specs.declared.gather.Gathered.{Gathered}
+use Rattle.laws.specs.Writing.{Room, Wrote}
+use Rattle.clusters.specs.declared.gathered.Writer.{Writer}
+
+-- ---- the search
+
+-- every cluster that begins with the letter a stands in the span, and its second letter too
+pub record Covers (a : ℕ) (span : Span) : Type 0 where
+  pub low-code : (k b : ℕ) (x : List ℕ) → lettersOf k ≡ a ∷ b ∷ x → span .low ≤ k
+  pub high-code : (k b : ℕ) (x : List ℕ) → lettersOf k ≡ a ∷ b ∷ x → k < span .high
+  pub low-second : (k b : ℕ) (x : List ℕ) → lettersOf k ≡ a ∷ b ∷ x → span .low ≤ b
+  pub high-second : (k b : ℕ) (x : List ℕ) → lettersOf k ≡ a ∷ b ∷ x → b < span .high
+
+-- every cluster that begins with the letters a and b stands in the span
+pub record Spans (a b : ℕ) (span : Span) : Type 0 where
+  pub low-code : (k : ℕ) (x : List ℕ) → lettersOf k ≡ a ∷ b ∷ x → span .low ≤ k
+  pub high-code : (k : ℕ) (x : List ℕ) → lettersOf k ≡ a ∷ b ∷ x → k < span .high
+
+-- r has the row, or it is 0 and no code of the span has it
+pub data Searched (row : Row) (low high r : ℕ) : Type 0 where
+  hit : rowBy r ≡ row → Searched row low high r
+  miss : r ≡ 0 → ((k : ℕ) → low ≤ k → k < high → rowBy k ≡ row → ⊥) → Searched row low high r
+
+-- no cluster has the code 0, so that 0 can stand for none
+abbrev pub orZero : Option ℕ → ℕ
+orZero none = 0
+orZero (some k) = k
+
+-- ---- gathering as a machine: its state is the letters not yet decided
+
+abbrev pub gatherFlush : Pending → List ℕ
+gatherFlush Nothing = []
+gatherFlush (One a) = a ∷ []
+gatherFlush (Two a b) = longest none (twoOf a b) a [] [] (b ∷ [])
+
+-- three letters a, b, c decide what becomes of a; the rest stays undecided
+abbrev pub undecided : Option ℕ → Option ℕ → ℕ → ℕ → Pending
+undecided (some k) pair b c = Nothing
+undecided none (some k) b c = One c
+undecided none none b c = Two b c
+
+abbrev pub gatherStep : Pending → ℕ → Pending
+gatherStep Nothing c = One c
+gatherStep (One a) c = Two a c
+gatherStep (Two a b) c = undecided (threeOf a b c) (twoOf a b) b c
+
+abbrev pub gatherEmit : Pending → ℕ → List ℕ
+gatherEmit Nothing c = []
+gatherEmit (One a) c = []
+gatherEmit (Two a b) c = longest (threeOf a b c) (twoOf a b) a [] [] []
+
+abbrev pub gatherer : Machine Pending ℕ ℕ
+gatherer = record { start = Nothing; step = gatherStep; emit = gatherEmit; flush = gatherFlush }
+
+-- from what is not decided and the next letter: what is not decided then, and what is written
+pub record GatherStepped (p : Pending) (c : ℕ) (r : Gathered) : Type 0 where
+  pub pends : r .pending ≡ gatherStep p c
+  pub writes : emitted (r .out) ≡ gatherEmit p c
+
+-- ---- with joining after it, and the letters of each code point before it
+
+abbrev pub gathering : Machine (Pending × Open) ℕ ℕ
+gathering = behind gatherer joiner
+
+abbrev pub coded : Machine (Pending × Open) ℕ ℕ
+coded = fed simpleOf gathering
+
+-- ---- what is written with both states, which go from function to function by value
+
+abbrev pub stateOf : Writer → Pending × Open
+stateOf w = (w .pending, w .joiner .state)
+
+-- there is room for what the joiner writes of the codes; for what both machines write of the
+-- letters; for what is still open
+abbrev pub JoinRoom : Writer → List ℕ → List ℕ → Type 0
+JoinRoom w codes out = Room out (w .at) (outs joiner (w .joiner .state) codes)
+
+abbrev pub TurnRoom : Writer → List ℕ → List ℕ → Type 0
+TurnRoom w letters out = Room out (w .at) (outs gathering (stateOf w) letters)
+
+abbrev pub RestRoom : Writer → List ℕ → Type 0
+RestRoom w out = Room out (w .at) (gathering .flush (stateOf w))
+
+-- the joiner has taken the codes, and what it writes stands in the buffer
+pub record Joined (w : Writer) (codes out : List ℕ) (r : Writer) (out′ : List ℕ) : Type 0 where
+  pub pends : r .pending ≡ w .pending
+  pub opens : r .joiner .state ≡ ends joiner (w .joiner .state) codes
+  pub writes : Wrote out (w .at) (outs joiner (w .joiner .state) codes) (r .at) out′
+
+-- and so both machines the letters
+pub record Turned (w : Writer) (letters out : List ℕ) (r : Writer) (out′ : List ℕ) : Type 0 where
+  pub goes : stateOf r ≡ ends gathering (stateOf w) letters
+  pub writes : Wrote out (w .at) (outs gathering (stateOf w) letters) (r .at) out′

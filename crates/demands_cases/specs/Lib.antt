@@ -1,3 +1,0 @@
--- Crate demands_cases, specs/: the twelve cases.
--- Not here: any proof (proofs/).
-pub mod Cases

@@ -1,0 +1,48 @@
+-- `mending::text::pass` meets its contract: where nothing passes one character is left to `make`,
+-- else what passes is copied.
+use Rattle.mending.proofs.Turns.{passes-room, passes-moved}
+use native.Mathlib.Omega.{arith}
+use borrow.Author.Needs.{needs}
+use Rattle.mending.proofs.text.pass.Statement.{statement}
+use Rattle.mending.proofs.text.pass.Tie as tie
+
+passing-requires : tie.Need-passing-requires
+passing-requires c κs = omega (arith, c .before .before .pre .inside)
+
+make-requires : tie.Need-make-requires
+make-requires c κs = c .before .before .before .before .before .pre
+
+same-length : tie.Need-same-length
+same-length c = search needs
+
+returns : tie.Need-returns
+returns c = c .before .before .make .ensures
+
+copy-requires : tie.Need-copy-requires
+copy-requires c κs = (
+  c .before .before .passing .ensures .goes .on,
+  (
+    c .before .before .passing .ensures .goes .inside,
+    passes-room (c .before .before .before .before .before .pre) (c .before .before .passing .ensures),
+  ),
+)
+
+same-length-2 : tie.Need-same-length-2
+same-length-2 c = search needs
+
+returns-2 : tie.Need-returns-2
+returns-2 c =
+    passes-moved (c .before .before .before .before .before .passing .ensures) (c .before .before .before .before .if1 .left)
+    (c .before .before .copy .ensures)
+
+pub pass-spec : {M : Type 1} → statement M
+pass-spec =
+    tie.close
+    (tie.spec
+    passing-requires
+    make-requires
+    same-length
+    returns
+    copy-requires
+    same-length-2
+    returns-2)
