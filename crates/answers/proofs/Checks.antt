@@ -17,7 +17,7 @@ use Rattle.laws.specs.Ranges.{within}
 use Rattle.laws.proofs.Bools.{test, or-left, or-right}
 use Rattle.laws.proofs.Lists.{all-at}
 use Rattle.laws.proofs.Ranges.{within-yes, within-below, within-above, within-not}
-use Rattle.answers.specs.Checks.{passes, refuses, overLimit, bad, firstBad, badCodePoint, noRoom, lacking, takesText, takesBytes}
+use Rattle.answers.specs.Checks.{passes, refuses, overLimit, bad, firstBad, badCodePoint, noRoom, lacking, takesText, takesUnits}
 use Rattle.answers.proofs.Orders.{passes-refuses, order-first, passes-false}
 
 -- ---- bad, by the ranges
@@ -159,20 +159,20 @@ first-bad-none (also h p) = rw (h, first-bad-none p)
 pub good-taken : (text : List ℕ) → length text ≤ 16384 → All (λ c. bad c ≡ false) text → takesText text ≡ passes
 good-taken text short good = text-taken text short refl (omega (arith, first-bad-none good))
 
--- ---- a text of bytes: 1
+-- ---- a text of code units: 1
 
-module _ (bytes : List ℕ) where
-  pub bytes-over : 16384 < length bytes → takesBytes bytes ≡ refuses 1 16384
-  unfolding takesBytes
-  bytes-over h = over-limit-refuses 16384 (length bytes) h
+module _ (units : List ℕ) where
+  pub units-over : 16384 < length units → takesUnits units ≡ refuses 1 16384
+  unfolding takesUnits
+  units-over h = over-limit-refuses 16384 (length units) h
 
-  pub bytes-taken : length bytes ≤ 16384 → takesBytes bytes ≡ passes
-  unfolding takesBytes
-  bytes-taken h = over-limit-passes 16384 (length bytes) h
+  pub units-taken : length units ≤ 16384 → takesUnits units ≡ passes
+  unfolding takesUnits
+  units-taken h = over-limit-passes 16384 (length units) h
 
-  pub bytes-short : takesBytes bytes ≡ passes → length bytes ≤ 16384
-  unfolding takesBytes
-  bytes-short e = over-limit-kept 16384 (length bytes) e
+  pub units-short : takesUnits units ≡ passes → length units ≤ 16384
+  unfolding takesUnits
+  units-short e = over-limit-kept 16384 (length units) e
 
 -- ---- back: a code point that is not bad, and a text that is taken
 

@@ -2,7 +2,7 @@
 -- and that the first check that refuses counts. It knows the paper's numbers alone: nothing of the
 -- code's enums (specs/Answers), nor of Hangul. The checks of 4 to 7 stand in the crates that make
 -- them.
-use mathlib.Core.Bool.{Bool, true, false, cond, _||_}
+use mathlib.Core.Bool.{Bool, cond, _||_}
 use mathlib.Core.List.{List, [], _∷_}
 use Prim.Native.Nat.{ℕ, suc}
 use lib.Dec.{ltb}
@@ -50,6 +50,9 @@ lacking room needed = cond (ltb room needed) needed 0
 unfoldable pub takesText : List ℕ → Check
 takesText text = inOrder (overLimit 16384 (length text) ∷ badCodePoint text ∷ [])
 
--- and where a text of bytes is taken: 1
-unfoldable pub takesBytes : List ℕ → Check
-takesBytes bytes = overLimit 16384 (length bytes)
+-- and where a text of code units is taken, as of bytes: 1
+unfoldable pub takesUnits : List ℕ → Check
+takesUnits units = overLimit 16384 (length units)
+
+abbrev pub takesBytes : List ℕ → Check
+takesBytes = takesUnits

@@ -1,63 +1,48 @@
-// The head of a call: eight numbers, the bounds of each kind, and the sizes of what comes in and of
-// what is lent.
-use crate::wire;
+// The head of a call: the bounds of each kind, and the sizes of what comes in and of what is lent.
+use wire::Head;
 ghost use Prim.Native.Nat.{_≤_};
 
-pub(crate) struct Head {
-    pub kind: u32,
-    pub x: u32,
-    pub y: u32,
-    pub z: u32,
-    pub w: u32,
-    pub room: usize,
-    pub first: usize,
-    pub second: usize,
+// What a kind takes and lends: the most elements of a and of b, whether these are code points, and
+// whether what is lent is.
+struct Shape {
+    first: usize,
+    second: usize,
+    of_text: bool,
+    lends_codes: bool,
 }
 
-fn read(bytes: &[u8]) -> Head {
-    Head {
-        kind: wire::number(bytes, 0),
-        x: wire::number(bytes, 1),
-        y: wire::number(bytes, 2),
-        z: wire::number(bytes, 3),
-        w: wire::number(bytes, 4),
-        room: wire::number(bytes, 5) as usize,
-        first: wire::number(bytes, 6) as usize,
-        second: wire::number(bytes, 7) as usize,
+fn shaped(first: usize, second: usize, of_text: bool, lends_codes: bool) -> Shape {
+    Shape {
+        first,
+        second,
+        of_text,
+        lends_codes,
     }
 }
 
-// Are the elements code points?
-fn is_of_text(kind: u32) -> bool {
+// An image may be one that is over the limit.
+fn shape_of(kind: u32) -> Shape {
     match kind {
-        1..=8 => true,
-        11 => true,
-        13 => true,
-        _ => false,
+        1..=7 => shaped(20000, 0, true, true),
+        8 | 11 => shaped(20000, 0, true, false),
+        9 | 12 | 15 => shaped(20000, 0, false, false),
+        10 => shaped(20000, 0, false, true),
+        13 => shaped(20000, 20000, true, true),
+        14 => shaped(20000, 20000, false, false),
+        16 | 17 => shaped(66000, 0, false, false),
+        18 => shaped(66000, 0, false, true),
+        19 => shaped(66000, 20000, false, false),
+        _ => shaped(0, 0, false, false),
     }
 }
 
-// The most elements of a: an image may be one that is over the limit.
-fn most_of_a(kind: u32) -> usize {
-    match kind {
-        16..=19 => 66000,
-        _ => 20000,
-    }
-}
-
-// The most elements of b.
-fn most_of_b(kind: u32) -> usize {
-    match kind {
-        13 => 20000,
-        14 => 20000,
-        19 => 20000,
-        _ => 0,
-    }
-}
-
-// Is there such a kind, and has it what it asks of its other numbers?
-fn is_kept(head: Head) -> bool {
+// Is there such a kind, and does the call keep its bounds?
+fn is_good(head: Head) -> bool {
     let kind = head.kind;
+    let shape = shape_of(kind);
+    if 120000 < head.room || shape.first < head.first || shape.second < head.second {
+        return false;
+    }
     match kind {
         1..=14 => true,
         15 => 96 <= head.room,
@@ -67,107 +52,59 @@ fn is_kept(head: Head) -> bool {
     }
 }
 
-// Does a call keep the bounds of its kind?
-fn is_good(head: Head) -> bool {
-    if 120000 < head.room {
-        return false;
-    }
-    if most_of_a(head.kind) < head.first {
-        return false;
-    }
-    if most_of_b(head.kind) < head.second {
-        return false;
-    }
-    is_kept(head)
-}
-
 // Reads the next head. It is of kind 0, of which there is no call, if the input ends before it or
 // the call does not keep the bounds of its kind.
 pub(crate) fn next() -> Head {
     let mut bytes = [0u8; 32];
     let size = io::read_full(libc::STDIN_FILENO, &mut bytes);
-    let head = read(&bytes);
+    let head = wire::head_of(&bytes);
     if size == 32 && is_good(head) {
         return head;
     }
-    read(&bytes[..0])
+    wire::head_of(&bytes[..0])
 }
 
-// A size, or the most if it is larger: in a good head none is.
-pub(crate) fn at_most(most: usize, size: usize) -> usize
-    ensures { λ r. ⌜ r ≤ most ⌝ }
+// The sizes of a call: the bytes that come in, and the code points that these are; the code points
+// that are lent; and, of what is written, where the lent bytes end and where all of it does. The
+// answer's numbers come first, and are not lent.
+pub(crate) struct Sizes {
+    pub bytes: usize,
+    pub codes: usize,
+    pub lent: usize,
+    pub lent_end: usize,
+    pub end: usize,
+}
+
+fn if_so(so: bool, size: usize) -> usize
+    ensures { λ r. ⌜ r ≤ size ⌝ }
 {
-    if size < most {
+    if so {
         return size;
     }
-    most
-}
-
-// How many elements come in, those of a and then those of b.
-fn elements(head: Head) -> usize
-    ensures { λ r. ⌜ r ≤ 86000 ⌝ }
-{
-    at_most(66000, head.first) + at_most(20000, head.second)
-}
-
-// How many code points come in.
-pub(crate) fn codes(head: Head) -> usize
-    ensures { λ r. ⌜ r ≤ 40000 ⌝ }
-{
-    if is_of_text(head.kind) {
-        return at_most(40000, elements(head));
-    }
     0
 }
 
-// How many bytes come in, of code points as of bytes.
-pub(crate) fn size(head: Head) -> usize
-    ensures { λ r. ⌜ r ≤ 160000 ⌝ }
-{
-    if is_of_text(head.kind) {
-        return 4 * codes(head);
-    }
-    elements(head)
-}
-
-// Is what is lent code points?
-pub(crate) fn lends_codes(kind: u32) -> bool {
-    match kind {
-        1..=7 => true,
-        10 => true,
-        13 => true,
-        18 => true,
-        _ => false,
-    }
-}
-
-// How many code points are lent.
-pub(crate) fn room(head: Head) -> usize
-    ensures { λ r. ⌜ r ≤ 120000 ⌝ }
-{
-    if lends_codes(head.kind) {
-        return at_most(120000, head.room);
-    }
-    0
-}
-
-// How many bytes are lent: those of the image if a record is to be written.
-fn filled(head: Head) -> usize
-    ensures { λ r. ⌜ r ≤ 120000 ⌝ }
-{
-    if lends_codes(head.kind) {
-        return 0;
-    }
+// How many elements are lent: the image if a record is to be written, else what is asked for.
+fn room_of(head: Head) -> usize {
     if head.kind == 19 {
-        return at_most(120000, head.first);
+        return head.first;
     }
-    at_most(120000, head.room)
+    head.room
 }
 
-// Where the bytes that are written end: the answer's numbers come before what is lent.
-pub(crate) fn end(head: Head) -> usize
-    ensures { λ r. ⌜ 16 ≤ r ⌝ }
-    ensures { λ r. ⌜ r ≤ 600016 ⌝ }
-{
-    16 + 4 * room(head) + filled(head)
+// In a good head nothing is over the bounds here.
+pub(crate) fn sizes_of(head: Head) -> Sizes {
+    let shape = shape_of(head.kind);
+    let elements = wire::at_most(66000, head.first) + wire::at_most(20000, head.second);
+    let codes = if_so(shape.of_text, elements);
+    let room = wire::at_most(120000, room_of(head));
+    let lent = if_so(shape.lends_codes, room);
+    let lent_end = 16 + if_so(!shape.lends_codes, room);
+    Sizes {
+        bytes: elements + 3 * codes,
+        codes,
+        lent,
+        lent_end,
+        end: lent_end + 4 * lent,
+    }
 }

@@ -1,14 +1,10 @@
-// Which call each kind is (docs/CALLS.md), by what comes in and what is lent. A kind that is not
-// listed does not come here: the head was found good.
-use crate::codes;
-use crate::heads;
-use crate::heads::Head;
+// Which call each kind is (docs/CALLS.md), by what is lent. A kind that is not listed does not come
+// here: the head was found good.
 use crate::labelled;
-use crate::ranked;
-use crate::reply;
-use crate::reply::Reply;
-use crate::wire;
+use crate::replies;
 use answers::Filled;
+use wire::Head;
+use wire::Reply;
 
 // The calls from text to text.
 fn formed(kind: u32, text: &[u32], lent: &mut [u32]) -> Filled {
@@ -21,73 +17,50 @@ fn formed(kind: u32, text: &[u32], lent: &mut [u32]) -> Filled {
     }
 }
 
-fn codes_to_codes(head: Head, text: &[u32], lent: &mut [u32]) -> Reply {
-    let kind = head.kind;
-    match kind {
-        1 => codes::sorted(letters::sorter(head.x)),
-        2 => codes::stepped(letters::one_step(head.x)),
-        13 => ranked::codes(text, head.first),
-        _ => reply::filled(formed(kind, text, lent)),
-    }
-}
-
+// The kinds that lend code points.
 fn to_codes(head: Head, text: &[u32], bytes: &[u8], lent: &mut [u32]) -> Reply {
     wire::fill(lent);
+    let end = wire::at_most(text.len(), head.first);
     let kind = head.kind;
     match kind {
-        10 => reply::read(utf8::read_text(bytes, lent)),
+        1 => replies::sorted(letters::sorter(head.x)),
+        2 => replies::stepped(letters::one_step(head.x)),
+        10 => replies::read(utf8::read_text(bytes, lent)),
+        13 => replies::ranked(ranking::rank(&text[..end], &text[end..])),
         18 => labelled::judged(sorting::order(bytes, lent)),
-        _ => codes_to_codes(head, text, lent),
+        _ => wire::filled(formed(kind, text, lent)),
     }
 }
 
-fn bytes_to_bytes(head: Head, text: &[u8], lent: &mut [u8]) -> Reply {
-    let kind = head.kind;
-    match kind {
-        9 => reply::named(names::read_name(text)),
-        12 => reply::read(mending::mend(text, lent)),
-        14 => ranked::encoded(text, head.first),
-        15 => labelled::fresh(lent),
-        16 => labelled::record(text, head.x as usize, lent),
-        17 => labelled::judged(labels::read_image(text)),
-        _ => labelled::write(head, text, lent),
-    }
-}
-
+// The kinds that lend bytes.
 fn to_bytes(head: Head, text: &[u32], bytes: &[u8], lent: &mut [u8]) -> Reply {
     wire::fill_bytes(lent);
+    let end = wire::at_most(bytes.len(), head.first);
     let kind = head.kind;
     match kind {
-        8 => reply::filled(names::name(head.x, lent)),
-        11 => reply::filled(utf8::write_text(text, lent)),
-        _ => bytes_to_bytes(head, bytes, lent),
+        8 => wire::filled(names::name(head.x, lent)),
+        9 => replies::named(names::read_name(bytes)),
+        11 => wire::filled(utf8::write_text(text, lent)),
+        12 => replies::read(mending::mend(bytes, lent)),
+        14 => replies::ranked(ranking::rank_bytes(&bytes[..end], &bytes[end..])),
+        15 => labelled::fresh(lent),
+        16 => labelled::record(bytes, head.x as usize, lent),
+        17 => labelled::judged(labels::read_image(bytes)),
+        _ => labelled::write(head, bytes, lent),
     }
 }
 
-// Lends the front of the code points, or the bytes after the answer's numbers.
-fn lending_codes(head: Head, text: &[u32], bytes: &[u8], lent: &mut [u32]) -> Reply {
-    let room = heads::at_most(lent.len(), head.room);
-    to_codes(head, text, bytes, &mut lent[..room])
-}
-
-fn lending_bytes(head: Head, text: &[u32], bytes: &[u8], output: &mut [u8]) -> Reply {
-    let end = heads::at_most(output.len(), heads::end(head));
-    let start = heads::at_most(end, 16);
-    to_bytes(head, text, bytes, &mut output[start..end])
-}
-
-// Makes the call with what came in, the front of the code points or of the bytes.
+// Makes the call with what came in: its code points and its bytes.
 pub(crate) fn answer(
     head: Head,
     text: &[u32],
     bytes: &[u8],
-    lent: &mut [u32],
-    output: &mut [u8],
+    codes: &mut [u32],
+    lent: &mut [u8],
 ) -> Reply {
-    let count = heads::at_most(text.len(), heads::codes(head));
-    let size = heads::at_most(bytes.len(), heads::size(head));
-    if heads::lends_codes(head.kind) {
-        return lending_codes(head, &text[..count], &bytes[..size], lent);
+    let kind = head.kind;
+    match kind {
+        1..=7 | 10 | 13 | 18 => to_codes(head, text, bytes, codes),
+        _ => to_bytes(head, text, bytes, lent),
     }
-    lending_bytes(head, &text[..count], &bytes[..size], output)
 }

@@ -9,17 +9,18 @@ use Rattle.letters.proofs.FullParts.{full-full, full-good}
 use Rattle.joining.proofs.Joins.{same-join, same-parts}
 use Rattle.normal.specs.Forms.{nfd}
 use Rattle.normal.proofs.Repertoire.{equivalent-joined, nfd-of-parts}
+use Rattle.encodings.proofs.Texts.{read-write}
 use Rattle.utf8.specs.Utf8.{readText}
-use Rattle.utf8.proofs.Round.{read-write}
+use Rattle.utf8.proofs.Round.{encodes8}
 use Rattle.mending.proofs.Same.{same-call}
 use Rattle.demands.specs.Accident.{Mended, OneBoat, SameBoat, TwoBoats}
 
 -- two calls that are done wrote the same exactly where what was read has the same full parts
 same-written : (s t : List ℕ) {v w : List ℕ} → Mended s v → Mended t w → (v ≡ w) ↔ (fullParts (readText s) ≡ fullParts (readText t))
-same-written s t m n = rw (m .is, n .is) (same-call s t (m .call) (n .call))
+same-written s t m n = rw (m .is, n .is) (same-call encodes8 s t (m .call) (n .call))
 
 pub one-boat : OneBoat
-one-boat name v w good m n = same-written _ _ m n .1 (rw (read-write good, read-write (full-good good)) (sym (full-full name)))
+one-boat name v w good m n = same-written _ _ m n .1 (rw (read-write encodes8 good, read-write encodes8 (full-good good)) (sym (full-full name)))
 
 pub same-boat : SameBoat
 same-boat ucd u s t v w h k m n =

@@ -12,15 +12,15 @@ use Prim.Native.Nat.{ℕ, zero, suc}
 use lib.Dec.{ltb}
 use lib.ListN.{length}
 use Rattle.laws.specs.Writing.{front}
-use Rattle.answers.specs.Checks.{Check, passes, refuses, inOrder, overLimit, badCodePoint, noRoom, takesText, takesBytes}
+use Rattle.answers.specs.Checks.{Check, passes, refuses, inOrder, overLimit, badCodePoint, noRoom, takesText, takesBytes, takesUnits}
 use Rattle.answers.specs.Verdicts.{Verdict, done, refused, verdict, after, fits}
 use Rattle.answers.specs.Answers.{Makes}
 use Rattle.answers.specs.declared.answer.Filled.{Filled}
 use Rattle.letters.specs.Syllables.{isSyllable, fullParts}
 use Rattle.joining.specs.Joining.{join as joins}
+use Rattle.encodings.specs.declared.answer.Read.{Read}
 use Rattle.utf8.specs.Utf8.{readText, writeText}
 use Rattle.utf8.specs.Reading.{Reads}
-use Rattle.utf8.specs.declared.text.Read.{Read}
 use Rattle.mending.specs.Mending.{mended}
 use Rattle.names.specs.Names.{nameOf, named}
 use Rattle.names.specs.Naming.{noSyllable, noName}
@@ -135,7 +135,7 @@ check-text text r e =
     answered (overLimit 16384 (length text) ∷ badCodePoint text ∷ []) refl (ap rows.asVerdict e ∙ as-verdict (takesText text))
 
 pub check-bytes : rows.CheckBytes
-unfolding takesBytes
+unfolding takesUnits
 check-bytes bytes r e = answered-one (ap rows.asVerdict e ∙ as-verdict (takesBytes bytes))
 
 -- ---- letters
@@ -153,7 +153,7 @@ unfolding takesText
 of-text make text out out′ r h = filled-demanded (overLimit 16384 (length text) ∷ badCodePoint text ∷ []) refl (h .fills)
 
 of-bytes : (make : List ℕ → List ℕ) (text out out′ : List ℕ) (r : Read) → Reads make text out r out′ → rows.OfBytes make text out r out′
-unfolding takesBytes
+unfolding takesUnits
 of-bytes make text out out′ r h = filled-alone (h .fills)
 
 pub full-parts : rows.FullParts
@@ -183,7 +183,7 @@ pub name : rows.Name
 name code out out′ r h = filled-alone (h .fills)
 
 pub read-name : rows.ReadName
-unfolding takesBytes
+unfolding takesUnits
 read-name name r h = answered (overLimit 16384 (length name) ∷ noName (named name) ∷ []) refl (h .answers)
 
 -- ---- clusters, fillers
@@ -200,7 +200,7 @@ turn = of-text turned
 -- ---- listing
 
 pub list-lines : rows.ListLines
-unfolding takesBytes
+unfolding takesUnits
 list-lines text out out′ r h = filled-alone (h .fills)
 
 -- ---- ranking
@@ -211,7 +211,7 @@ rank first second r h =
     answered (overLimit 16384 (length first) ∷ overLimit 16384 (length second) ∷ badCodePoint first ∷ badCodePoint second ∷ []) refl (h .answers)
 
 pub rank-bytes : rows.RankBytes
-unfolding takesTwoBytes takesBytes
+unfolding takesTwoBytes takesUnits
 rank-bytes first second r h = answered (overLimit 16384 (length first) ∷ overLimit 16384 (length second) ∷ []) refl (h .answers)
 
 -- ---- the label file
@@ -233,7 +233,7 @@ pub read-image : rows.ReadImage
 read-image image r h = (answered (ofImage image) (image-checks image) (h .answers), h .names)
 
 pub write-record : rows.WriteRecord
-unfolding takesWriting overImage takesBytes
+unfolding takesWriting overImage takesUnits
 write-record image number object berth form label image′ r h =
     demanded (overLimit 65472 (length image) ∷ overLimit 16384 (length label) ∷ noRecord image number ∷ noLabel form label ∷ [])
     (ap rows.asVerdict (h .answers) ∙ as-verdict (takesWriting image number form label))
@@ -250,7 +250,7 @@ print image out out′ r h = (filled-demanded (ofImage image) (image-checks imag
 -- ---- the calls for C
 
 pub mend-for-c : rows.MendForC
-unfolding takesBytes
+unfolding takesUnits
 mend-for-c text out out′ r h =
     filled-for-c counted-for-c (overLimit 16384 (length text)) (mended text) out (limit-numbered 16384 (length text)) (h .answers) (h .leaves)
 
@@ -258,13 +258,13 @@ pub name-for-c : rows.NameForC
 name-for-c code out out′ r h = filled-for-c plain-for-c (noSyllable code) (nameOf code) out (syllable-numbered code) (h .answers) (h .leaves)
 
 pub read-name-for-c : rows.ReadNameForC
-unfolding takesBytes
+unfolding takesUnits
 read-name-for-c name r h =
     answered-for-c plain-for-c (overLimit 16384 (length name)) (noName (named name)) (limit-numbered 16384 (length name)) (name-numbered (named name))
     (h .answers)
 
 pub rank-for-c : rows.RankForC
-unfolding takesTwoBytes takesBytes
+unfolding takesTwoBytes takesUnits
 rank-for-c first second r h =
     answered-for-c order-for-c (overLimit 16384 (length first)) (overLimit 16384 (length second)) (limit-numbered 16384 (length first))
     (limit-numbered 16384 (length second)) (h .answers)

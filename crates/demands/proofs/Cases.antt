@@ -12,16 +12,16 @@ use lib.Seq.{take-append-seam}
 use borrow.Author.Tests.{leb-true}
 use Rattle.laws.specs.Lists.{All, none, also, each}
 use Rattle.laws.specs.Ranges.{within}
-use Rattle.answers.specs.Checks.{Check, passes, refuses, inOrder, overLimit, bad, firstBad, badCodePoint, takesText, takesBytes}
+use Rattle.answers.specs.Checks.{Check, passes, refuses, inOrder, overLimit, bad, firstBad, badCodePoint, takesText, takesBytes, takesUnits}
 use Rattle.answers.specs.Verdicts.{Verdict, done, verdict, after, fits, Fills}
 use Rattle.answers.proofs.Checks.{no-room-passes}
 use Rattle.letters.specs.Sorts.{sortOf}
 use Rattle.letters.specs.Syllables.{isSyllable, oneStep, partsTo, fullParts}
 use Rattle.joining.specs.Roles.{roleOf, pair}
 use Rattle.joining.specs.Joining.{opens, join}
-use Rattle.utf8.specs.Table37.{rowOf}
+use Rattle.encodings.specs.declared.answer.Counted.{Counted}
+use Rattle.encodings.specs.Rows.{rowIn}
 use Rattle.utf8.specs.Utf8.{readText}
-use Rattle.utf8.specs.declared.text.Counted.{Counted}
 use Rattle.names.specs.Names.{initials, peaks, finals, prefix, nameBy, nameOf, namedFrom, named}
 use Rattle.names.specs.Naming.{noSyllable, noName, syllableOr}
 use Rattle.clusters.specs.Table.{modernInitials, modernPeaks, modernFinals, oldInitials, clusters, lettersOf}
@@ -108,8 +108,8 @@ all-hold (r ∷ rows) h =
     also (gives (r .call) (ap (λ p. p .0) (h .0)) (leb-true (length (whole (r .call))) 64 (ap (λ p. p .1) (h .0)))) (all-hold rows (h .1))
 
 pub cases : Cases
-unfolding table each within overLimit bad firstBad badCodePoint takesText takesBytes sortOf isSyllable oneStep partsTo roleOf pair opens
-    rowOf initials peaks finals prefix nameBy named namedFrom noSyllable modernInitials modernPeaks modernFinals oldInitials clusters
+unfolding table each within overLimit bad firstBad badCodePoint takesText takesUnits sortOf isSyllable oneStep partsTo roleOf pair opens
+    rowIn initials peaks finals prefix nameBy named namedFrom noSyllable modernInitials modernPeaks modernFinals oldInitials clusters
     lettersOf simple twoOf threeOf clustered gathered pairs asInitial asPeak asFinal groupOf turned
 cases =
     all-hold table

@@ -4,7 +4,6 @@ use mathlib.Core.List.{List, [], _∷_}
 use Prim.Native.Nat.{ℕ, _+_}
 use native.Mathlib.Omega.{arith}
 use lib.ListN.{length, take}
-use Rattle.laws.specs.Pieces.{pieces}
 use Rattle.answers.specs.Checks.{Check, passes, refuses, badCodePoint}
 use Rattle.answers.specs.Verdicts.{done, verdict}
 use Rattle.answers.specs.Answers.{Makes}
@@ -16,10 +15,12 @@ use Rattle.joining.proofs.Calls.{parts-call}
 use Rattle.normal.specs.Forms.{nfd}
 use Rattle.normal.proofs.Conjoining.{nfd-parts, nfc-join}
 use Rattle.normal.proofs.Repertoire.{parts-are-nfd, joined-equivalent, joined-is-nfc}
+use Rattle.encodings.specs.Pieces.{pieces}
+use Rattle.encodings.proofs.Texts.{reading-in, reading-in-unique}
 use Rattle.utf8.specs.Table37.{kindOf}
 use Rattle.utf8.specs.Utf8.{readText}
-use Rattle.utf8.proofs.Reading.{reading8, reading8-unique}
-use Rattle.mending.specs.Mending.{mended}
+use Rattle.utf8.proofs.Round.{encodes8}
+use Rattle.mending.specs.Mending.{mendedIn}
 use Rattle.names.specs.Names.{nameOf}
 use Rattle.names.proofs.Lengths.{syllable-name-most}
 use Rattle.names.proofs.NR1.{name-nr1}
@@ -61,16 +62,16 @@ reading-utf8 text out out′ c h =
     let d = fills-done (h .fills) in
     record {
       pieces = pieces kindOf text;
-      read = reading8 text;
-      codes-are = λ P r. fills-front (h .fills) (ap (λ c. c .length) (d .1)) ∙ rw (reading8-unique r);
-      ills-are = λ P r. ap (λ c. c .ills) (d .1) ∙ rw (reading8-unique r);
+      read = reading-in encodes8 text;
+      codes-are = λ P r. fills-front (h .fills) (ap (λ c. c .length) (d .1)) ∙ rw (reading-in-unique encodes8 r);
+      ills-are = λ P r. ap (λ c. c .ills) (d .1) ∙ rw (reading-in-unique encodes8 r);
     }
 
 pub mending : demand.Mending
-unfolding mended
+unfolding mendedIn
 mending text out out′ c h P r =
     let d = fills-done (h .fills) in
-    (fills-front (h .fills) (ap (λ c. c .length) (d .1)) ∙ rw (reading8-unique r, nfc-join (readText text)), ap (λ c. c .ills) (d .1) ∙ rw (reading8-unique r))
+    (fills-front (h .fills) (ap (λ c. c .length) (d .1)) ∙ rw (reading-in-unique encodes8 r, nfc-join (readText text)), ap (λ c. c .ills) (d .1) ∙ rw (reading-in-unique encodes8 r))
 
 pub naming : demand.Naming
 naming code out out′ n h =

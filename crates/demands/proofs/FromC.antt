@@ -6,14 +6,15 @@ use mathlib.Core.List.{List, [], _∷_}
 use Prim.Native.Nat.{ℕ, zero, suc, _+_, _≤_}
 use native.Mathlib.Omega.{arith}
 use lib.ListN.{length, take}
-use Rattle.answers.specs.Checks.{Check, passes, refuses, inOrder, takesBytes}
+use Rattle.answers.specs.Checks.{Check, passes, refuses, inOrder, takesBytes, takesUnits}
 use Rattle.answers.specs.Verdicts.{Verdict, verdict, fits}
 use Rattle.answers.specs.declared.answer.Filled.the-variants.{Done}
 use Rattle.answers.proofs.Verdicts.{fills-done, fills-front}
+use Rattle.encodings.specs.declared.answer.Read.the-variants.{Done as ReadDone}
+use Rattle.encodings.proofs.Texts.{reading-in-unique}
 use Rattle.utf8.specs.Utf8.{illText}
 use Rattle.utf8.specs.Reading.{countedOf, Reads}
-use Rattle.utf8.specs.declared.text.Read.the-variants.{Done as ReadDone}
-use Rattle.utf8.proofs.Reading.{reading8-unique}
+use Rattle.utf8.proofs.Round.{encodes8}
 use Rattle.mending.specs.Mending.{mended}
 use Rattle.mending.proofs.Damage.{done-filled}
 use Rattle.names.specs.Names.{nameOf, named}
@@ -26,8 +27,8 @@ use Rattle.ranking.proofs.Orders.{chain-most}
 use Rattle.ranking.proofs.Ranks.{bytes-swapped, bytes-chain, same-mended-equal}
 use Rattle.pulphopper.specs.Replies.{plainAnswer, Mends, NamesForC, RanksForC}
 use Rattle.pulphopper.specs.declared.answer.Answer.{Answer}
-use Rattle.demands.proofs.Accident.{one-boat}
 use Rattle.demands.specs.FromC as demand
+use Rattle.demands.proofs.Accident.{one-boat}
 use Rattle.demands.proofs.Calls.{Numbered, numbered-both, limit-numbered, fits-numbered, syllable-numbered, name-numbered, Tells, counted-for-c, plain-for-c, order-for-c}
 
 -- ---- a call that refuses nothing passed its checks, and answers its value
@@ -39,7 +40,7 @@ module _ {Value : Type 0} {tells : Verdict Value → Answer} {value : Value → 
   unrefused (refuses (suc n) place) h v e z = absurd (omega (arith, z, ap (λ (a : Answer). a .refusal) (e ∙ c .is-refused (suc n) place)))
 
 bytes-numbered : (bytes : List ℕ) → Numbered (takesBytes bytes)
-unfolding takesBytes
+unfolding takesUnits
 bytes-numbered bytes = limit-numbered 16384 (length bytes)
 
 -- ---- mending
@@ -70,7 +71,7 @@ one-boat-from-c name out out′ other other′ r q good h k y z =
     one-boat name _ _ good (mended-from-c _ out out′ r h y) (mended-from-c _ other other′ q k z)
 
 pub counted-from-c : demand.CountedFromC
-counted-from-c text out out′ r h z P read = ap (λ (a : Answer). a .count) (mended-told h z) ∙ rw (reading8-unique read)
+counted-from-c text out out′ r h z P read = ap (λ (a : Answer). a .count) (mended-told h z) ∙ rw (reading-in-unique encodes8 read)
 
 -- ---- names
 

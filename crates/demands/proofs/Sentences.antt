@@ -2,22 +2,22 @@
 use mathlib.Core.Path.{_≡_, refl, sym, ap}
 use mathlib.Core.Bool.{Bool, true, false, cond}
 use mathlib.Core.Logic.{_⊎_, inl, inr}
-use mathlib.Core.List.{List, [], _∷_, _++_}
+use mathlib.Core.List.{[], _∷_}
 use Prim.Native.Nat.{ℕ}
 use native.Mathlib.Omega.{arith}
 use lib.Dec.{ltb}
 use lib.ListN.{length}
-use Rattle.answers.specs.Checks.{Check, passes, refuses, inOrder, overLimit, noRoom, takesBytes}
-use Rattle.answers.proofs.Orders.{passes-refuses}
 use Rattle.laws.specs.Lists.{each}
 use Rattle.laws.specs.Ranges.{within}
+use Rattle.answers.specs.Checks.{Check, passes, refuses, inOrder, overLimit, noRoom, takesUnits}
+use Rattle.answers.proofs.Orders.{passes-refuses}
 use Rattle.letters.specs.Syllables.{isSyllable, oneStep, partsTo}
 use Rattle.letters.proofs.Counts.{modern-initials, old-initials, modern-peaks, old-peaks, modern-finals, old-finals}
-use Rattle.utf8.specs.Table37.{rowOf}
+use Rattle.encodings.specs.Rows.{rowIn}
 use Rattle.ranking.specs.Ranking.{rankItem}
 use Rattle.ranking.specs.Items.{Item, number, character}
-use Rattle.ranking.proofs.Orders.{by-value-self}
 use Rattle.ranking.specs.declared.order.Order.the-variants.{Equal}
+use Rattle.ranking.proofs.Orders.{by-value-self}
 use Rattle.labels.specs.Images.{overImage, noRecord, takesRecord, takesWriting}
 use Rattle.demands.specs.Sentences.{LettersCounted, Ac0c, OnlyByLength, TrueFffd, NumbersFirst, BeginningFirst, JudgedAlone, NothingStoredJudged}
 
@@ -40,11 +40,11 @@ one-or-three false true l m n place e = inr (sym (ap number-of e))
 one-or-three false false l m n place e = absurd (passes-refuses e)
 
 pub only-by-length : OnlyByLength
-unfolding takesBytes overLimit noRoom
+unfolding takesUnits overLimit noRoom
 only-by-length text whole out n place e = one-or-three (ltb 16384 (length text)) (ltb (length out) (length whole)) 16384 (length whole) n place e
 
 pub true-fffd : TrueFffd
-unfolding rowOf within
+unfolding rowIn within
 true-fffd = (refl, refl)
 
 pub numbers-first : NumbersFirst

@@ -13,10 +13,10 @@ use Rattle.answers.specs.Checks.{bad}
 use Rattle.letters.specs.Syllables.{fullParts}
 use Rattle.normal.specs.Forms.{Database, Equivalent}
 use Rattle.normal.specs.Repertoire.{Repertoire, Ucd}
+use Rattle.encodings.specs.declared.answer.Counted.{Counted}
+use Rattle.encodings.specs.declared.answer.Read.the-variants.{Done}
 use Rattle.utf8.specs.Utf8.{readText, writeText}
 use Rattle.utf8.specs.Reading.{Reads}
-use Rattle.utf8.specs.declared.text.Counted.{Counted}
-use Rattle.utf8.specs.declared.text.Read.the-variants.{Done}
 use Rattle.mending.specs.Mending.{mended, filledFront}
 use Prim.Native.Nat.{ℕ}
 

@@ -19,9 +19,10 @@ use Rattle.letters.specs.Answers.{sorted, stepped}
 use Rattle.letters.specs.declared.sort.Sorted.{Sorted}
 use Rattle.letters.specs.declared.step.Stepped.{Stepped as OneStepped}
 use Rattle.joining.specs.Joining.{join}
+use Rattle.encodings.specs.Reading.{readAs}
+use Rattle.encodings.specs.declared.answer.Read.{Read}
 use Rattle.utf8.specs.Utf8.{readText, illText, writeText}
-use Rattle.utf8.specs.Reading.{readAs, countedOf, Reads}
-use Rattle.utf8.specs.declared.text.Read.{Read}
+use Rattle.utf8.specs.Reading.{countedOf, Reads}
 use Rattle.mending.specs.Mending.{mended}
 use Rattle.names.specs.Names.{nameOf, named}
 use Rattle.names.specs.Naming.{noSyllable, noName, syllableOr, namedAs, Names, ReadsName}
@@ -29,7 +30,6 @@ use Rattle.names.specs.declared.read.Named.{Named}
 use Rattle.clusters.specs.Simple.{simple}
 use Rattle.clusters.specs.Gathering.{gathered}
 use Rattle.fillers.specs.Groups.{turned}
-use Rattle.listing.specs.Listing.{listed as lines, Lists}
 use Rattle.ranking.specs.Ranking.{orderNumber, rank, rankBytes, ranked, Ranks, RanksBytes}
 use Rattle.ranking.specs.declared.order.Ranked.{Ranked}
 use Rattle.labels.specs.Records.{layout, labelOf, entryOf, recordOf}
@@ -39,6 +39,7 @@ use Rattle.labels.specs.declared.image.Judged.{Judged}
 use Rattle.labels.specs.declared.write.Form.{Form}
 use Rattle.sorting.specs.Sorting.{orderOf, Orders}
 use Rattle.sorting.specs.Printing.{printed, Prints}
+use Rattle.listing.specs.Listing.{listed as lines, Lists}
 use Rattle.pulphopper.specs.Replies.{Mends, NamesForC, ReadsNameForC, RanksForC}
 use Rattle.pulphopper.specs.declared.answer.Answer.{Answer}
 use Rattle.demands.specs.Demand1.{Demand1}

@@ -17,10 +17,11 @@ use Rattle.letters.specs.Syllables.{oneStep, fullParts}
 use Rattle.letters.specs.Answers.{stepped}
 use Rattle.letters.specs.declared.step.Stepped.{Stepped}
 use Rattle.joining.specs.Joining.{join}
+use Rattle.encodings.specs.Reading.{readAs}
+use Rattle.encodings.specs.declared.answer.Counted.{Counted}
+use Rattle.encodings.specs.declared.answer.Read.{Read}
 use Rattle.utf8.specs.Utf8.{readText}
-use Rattle.utf8.specs.Reading.{readAs, Reads}
-use Rattle.utf8.specs.declared.text.Counted.{Counted}
-use Rattle.utf8.specs.declared.text.Read.{Read}
+use Rattle.utf8.specs.Reading.{Reads}
 use Rattle.names.specs.Naming.{namedAs, Names, ReadsName}
 use Rattle.names.specs.declared.read.Named.{Named}
 use Rattle.clusters.specs.Simple.{simple}

@@ -9,9 +9,6 @@ use Prim.Native.Nat.{ℕ, _+_, _≤_}
 use lib.ListN.{length, take}
 use Rattle.laws.specs.Lists.{All, each}
 use Rattle.laws.specs.Writing.{front}
-use Rattle.laws.specs.Pieces.{Piece, illCount}
-use Rattle.laws.specs.Readings.{Reading}
-use Rattle.laws.specs.Damage.{codes}
 use Rattle.answers.specs.Checks.{bad, badCodePoint}
 use Rattle.answers.specs.Verdicts.{verdict}
 use Rattle.answers.specs.Answers.{Makes}
@@ -26,11 +23,14 @@ use Rattle.joining.specs.Joining.{join}
 use Rattle.normal.specs.Forms.{Database, nfd, nfc, Equivalent}
 use Rattle.normal.specs.Jamo.{jamo}
 use Rattle.normal.specs.Repertoire.{Repertoire, Ucd}
+use Rattle.encodings.specs.Pieces.{Piece, illCount}
+use Rattle.encodings.specs.Readings.{Reading}
+use Rattle.encodings.specs.Damage.{codes}
+use Rattle.encodings.specs.declared.answer.Counted.{Counted}
+use Rattle.encodings.specs.declared.answer.Read.the-variants.{Done as ReadDone}
 use Rattle.utf8.specs.Table37.{kindOf}
 use Rattle.utf8.specs.Utf8.{utf8, readText, writeText}
 use Rattle.utf8.specs.Reading.{Reads}
-use Rattle.utf8.specs.declared.text.Counted.{Counted}
-use Rattle.utf8.specs.declared.text.Read.the-variants.{Done as ReadDone}
 use Rattle.mending.specs.Mending.{mended}
 use Rattle.names.specs.NR1.{ruleNR1}
 use Rattle.names.specs.Naming.{Names, ReadsName}

@@ -14,15 +14,15 @@ use mathlib.Core.Path.{_≡_}
 use mathlib.Core.List.{List, [], _∷_, _++_}
 use Prim.Native.Nat.{ℕ, _*_, _≤_}
 use lib.ListN.{length}
-use Rattle.laws.specs.Pieces.{Piece, ill, unitsOf}
-use Rattle.laws.specs.Readings.{Reading}
-use Rattle.laws.specs.Places.{EndingPlace, BeginningFound}
+use Rattle.encodings.specs.Pieces.{Piece, ill, unitsOf}
+use Rattle.encodings.specs.Readings.{Reading}
+use Rattle.encodings.specs.Places.{EndingPlace, BeginningFound}
+use Rattle.encodings.specs.declared.answer.Counted.{Counted}
+use Rattle.encodings.specs.declared.answer.Read.{Read}
+use Rattle.encodings.specs.declared.answer.Read.the-variants.{Done}
 use Rattle.utf8.specs.Table37.{kindOf}
 use Rattle.utf8.specs.Utf8.{utf8}
 use Rattle.utf8.specs.Reading.{Reads}
-use Rattle.utf8.specs.declared.text.Counted.{Counted}
-use Rattle.utf8.specs.declared.text.Read.{Read}
-use Rattle.utf8.specs.declared.text.Read.the-variants.{Done}
 use Rattle.mending.specs.Mending.{mended, joinedBytes, SameAround}
 use Rattle.demands.specs.Accident.{Mended}
 

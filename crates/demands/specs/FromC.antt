@@ -9,11 +9,11 @@ use mathlib.Core.List.{List}
 use Prim.Native.Nat.{ℕ, _+_, _≤_}
 use lib.ListN.{take}
 use Rattle.laws.specs.Lists.{All}
-use Rattle.laws.specs.Pieces.{Piece, illCount}
-use Rattle.laws.specs.Readings.{Reading}
 use Rattle.answers.specs.Checks.{bad}
 use Rattle.answers.specs.declared.answer.Filled.the-variants.{Done}
 use Rattle.letters.specs.Syllables.{fullParts}
+use Rattle.encodings.specs.Pieces.{Piece, illCount}
+use Rattle.encodings.specs.Readings.{Reading}
 use Rattle.utf8.specs.Table37.{kindOf}
 use Rattle.utf8.specs.Utf8.{writeText}
 use Rattle.names.specs.Naming.{Names, ReadsName}

@@ -23,10 +23,12 @@ use Rattle.answers.specs.Checks.{Check, passes, refuses, inOrder, takesBytes}
 use Rattle.answers.specs.declared.answer.Checked.{Checked}
 use Rattle.answers.specs.declared.answer.Checked.the-variants.{Passed}
 use Rattle.answers.proofs.Answers.{refusedBy-injective, checked-injective}
-use Rattle.answers.proofs.Checks.{bytes-taken}
+use Rattle.answers.proofs.Checks.{units-taken}
 use Rattle.answers.proofs.Verdicts.{filled-whole, fills-unique, fills-done, fills-front}
+use Rattle.answers.proofs.Orders.{order-first, order-rest, passes-true}
 use Rattle.letters.specs.Syllables.{fullParts}
 use Rattle.utf8.specs.Utf8.{readText, illText}
+use Rattle.utf8.proofs.Round.{encodes8}
 use Rattle.mending.proofs.Round.{mended-ills}
 use Rattle.mending.proofs.Same.{same-mended}
 use Rattle.labels.specs.Records.{recordOf, objectOf, berthOf, labelOf, entryOf}
@@ -39,7 +41,6 @@ use Rattle.labels.specs.declared.image.Judged.the-variants.{Records, Ref
 use Rattle.labels.specs.declared.write.Form.{Form}
 use Rattle.labels.specs.declared.write.Form.the-variants.{AsGiven, Joined}
 use Rattle.labels.proofs.Records.{record-length, record-object, record-berth, record-size, record-label}
-use Rattle.answers.proofs.Orders.{order-first, order-rest, passes-true}
 use Rattle.labels.proofs.Layouts.{layout-good, written-passes, record-back}
 use Rattle.labels.proofs.Images.{at-length, replaced-length, replaced-here, replaced-other, replaced-same, number-inside}
 use Rattle.labels.proofs.Finding.{taken-inside, taken-layout, taken-short, taken-size, taken-over, taken-number}
@@ -128,7 +129,7 @@ module _ (image : List ℕ) (k : ℕ) (form : Form) (label : List ℕ) (passed :
 -- what is stored of a well-formed label is well-formed
 stored-formed : (form : Form) (label : List ℕ) → illText label ≡ 0 → illText (stored form label) ≡ 0
 stored-formed AsGiven label e = e
-stored-formed Joined label e = mended-ills label
+stored-formed Joined label e = mended-ills encodes8 label
 
 -- ---- A WRITTEN RECORD IS READ AGAIN
 
@@ -212,7 +213,7 @@ module _ (image : List ℕ) (k : ℕ) (all : All (λ b. b < 256) image) (taken :
       simp (
         taken-over image k taken,
         taken-number image k taken,
-        bytes-taken (labelOf (recordAt image k)) (omega (arith, back-short)),
+        units-taken (labelOf (recordAt image k)) (omega (arith, back-short)),
         eq-eqb (illText (labelOf (recordAt image k))) 0 back-formed,
         le-leb (length (labelOf (recordAt image k))) 88 back-short,
       )
@@ -272,4 +273,4 @@ module _ (image : List ℕ) (k object berth : ℕ) (form : Form) (label : List �
 
 -- ---- two labels that read as texts with the same full parts, two spellings of one boat, are stored joined as the same bytes
 pub stored-same : (s t : List ℕ) → fullParts (readText s) ≡ fullParts (readText t) → stored Joined s ≡ stored Joined t
-stored-same s t e = same-mended s t .1 e
+stored-same s t e = same-mended encodes8 s t .1 e

@@ -19,13 +19,15 @@ use borrow.Author.Tests.{lt-ltb, le-ltb, ltb-false, eq-eqb, ne-eqb, eqb-true}
 use Rattle.laws.specs.Lists.{All}
 use Rattle.laws.proofs.Lists.{all-left, all-right}
 use Rattle.answers.specs.Checks.{passes, inOrder}
+use Rattle.answers.proofs.Orders.{order-first, order-rest, passes-true, passes-false}
+use Rattle.encodings.proofs.Ills.{first-ill-none, first-ill-end}
 use Rattle.utf8.specs.Utf8.{illText, firstIll}
+use Rattle.utf8.proofs.Round.{encodes8}
 use Rattle.labels.specs.Records.{highFirst, zeros, recordOf, objectOf, berthOf, sizeOf, labelOf, behindLabel, firstSet, tooLong, notSpare, illFormed, tailSet, layout, Written}
 use Rattle.labels.specs.Inner.{faulty}
 use Rattle.labels.proofs.Numbers.{high-number, number-below}
 use Rattle.labels.proofs.Records.{record-size, record-label, record-spare, record-behind}
-use Rattle.answers.proofs.Orders.{order-first, order-rest, passes-true, passes-false}
-use Rattle.labels.proofs.Places.{ill-none, formed-end, set-zeros, zeros-set}
+use Rattle.labels.proofs.Places.{set-zeros, zeros-set}
 
 -- ---- the judge of a record: r and s are the indices that it found
 
@@ -132,7 +134,7 @@ module _ (bytes : List ℕ) (e : layout bytes ≡ passes) where
 
   good-formed : illText (labelOf bytes) ≡ 0
   good-formed =
-      formed-end (labelOf bytes)
+      first-ill-end encodes8 (labelOf bytes)
       (ltb-false (firstIll (labelOf bytes)) (length (labelOf bytes))
       (passes-false (ltb (firstIll (labelOf bytes)) (length (labelOf bytes))) 7 (8 + firstIll (labelOf bytes))
       (order-first (illFormed bytes) (tailSet bytes ∷ []) after-second)))
@@ -156,7 +158,7 @@ layout-good bytes size e = record {
 pub good-layout : (bytes : List ℕ) → Good bytes → layout bytes ≡ passes
 unfolding layout
 good-layout bytes g =
-    let well : length (labelOf bytes) ≤ firstIll (labelOf bytes) = omega (arith, ill-none (labelOf bytes) (g .formed)) in
+    let well : length (labelOf bytes) ≤ firstIll (labelOf bytes) = omega (arith, first-ill-none encodes8 (labelOf bytes) (g .formed)) in
     let unset : length (behindLabel bytes) ≤ firstSet (behindLabel bytes) =
     rw (g .tail) (omega (arith, length-replicate {A = ℕ} (88 - sizeOf bytes) 0, set-zeros (88 - sizeOf bytes))) in
     simp (

@@ -24,12 +24,15 @@ use Rattle.answers.specs.declared.refusal.Refusal.the-variants.{NoRoom, BadLayo
 use Rattle.answers.specs.declared.answer.Checked.{Checked}
 use Rattle.answers.specs.declared.answer.Checked.the-variants.{Passed, Refused}
 use Rattle.answers.proofs.Verdicts.{refused-room}
-use Rattle.utf8.specs.Utf8.{illText, firstIll}
+use Rattle.answers.proofs.Orders.{order-first, order-rest, order-one, order-refused, order-passed}
+use Rattle.encodings.specs.declared.answer.Counted.{Counted}
+use Rattle.encodings.specs.declared.answer.Read.{Read}
+use Rattle.encodings.specs.declared.answer.Read.the-variants.{Done, Refused as ReadRefused}
+use Rattle.encodings.proofs.Reading.{reads-unique}
+use Rattle.encodings.proofs.Ills.{first-ill-none, first-ill-end}
+use Rattle.utf8.specs.Utf8.{form8, illText, firstIll}
 use Rattle.utf8.specs.Reading.{Reads, countedOf}
-use Rattle.utf8.specs.declared.text.Counted.{Counted}
-use Rattle.utf8.specs.declared.text.Read.{Read}
-use Rattle.utf8.specs.declared.text.Read.the-variants.{Done, Refused as ReadRefused}
-use Rattle.utf8.proofs.Reading.{reads-unique}
+use Rattle.utf8.proofs.Round.{encodes8}
 use Rattle.mending.specs.Mending.{mended}
 use Rattle.mending.proofs.Round.{call-done}
 use Rattle.labels.specs.Records.{zeros, freshRecord, recordOf}
@@ -39,8 +42,6 @@ use Rattle.labels.specs.declared.write.Form.{Form}
 use Rattle.labels.specs.declared.write.Form.the-variants.{AsGiven, Joined}
 use Rattle.labels.proofs.Numbers.{four-bytes, two-bytes}
 use Rattle.labels.proofs.Records.{record-length}
-use Rattle.answers.proofs.Orders.{order-first, order-rest, order-one, order-refused, order-passed}
-use Rattle.labels.proofs.Places.{ill-none, formed-end}
 use Rattle.labels.proofs.Images.{image-over, image-within, number-inside}
 
 -- ---- a fresh record filled
@@ -120,7 +121,7 @@ module _ (label out : List ℕ) (taken : takesBytes label ≡ passes) {r : Read}
   joined-long : 88 ≤ length out → {refusal : Refusal} → r ≡ ReadRefused refusal → 88 < length (mended label)
   joined-long h q =
       test (ltb 88 (length (mended label))) (λ e. ltb-true 88 (length (mended label)) e)
-      (λ e. absurd (not-done (sym (call-done label out taken (omega (arith, ltb-false 88 (length (mended label)) e)) made .0) ∙ q)))
+      (λ e. absurd (not-done (sym (call-done form8 label out taken (omega (arith, ltb-false 88 (length (mended label)) e)) made .0) ∙ q)))
 
   pub joined-refused : (image : List ℕ) (k object berth : ℕ) → 88 ≤ length out → {refusal : Refusal} → r ≡ ReadRefused refusal
       → Stores image k object berth (mended label) (Refused (BadLayout 8)) image
@@ -138,7 +139,7 @@ module _ (label out : List ℕ) (taken : takesBytes label ≡ passes) {r : Read}
 
     counted-is : counted ≡ countedOf mended label
     counted-is =
-        let e = call-done label out taken joined-room made .0 in
+        let e = call-done form8 label out taken joined-room made .0 in
         cc
 
     joined-size : counted .length ≡ length (mended label)
@@ -147,14 +148,14 @@ module _ (label out : List ℕ) (taken : takesBytes label ≡ passes) {r : Read}
     -- what was counted is the front of the buffer, and that is what is stored
     joined-front : take (counted .length) out′ ≡ mended label
     joined-front =
-        rw (joined-size, call-done label out taken joined-room made .1) (take-append-seam (mended label) (drop (length (mended label)) out))
+        rw (joined-size, call-done form8 label out taken joined-room made .1) (take-append-seam (mended label) (drop (length (mended label)) out))
 
     pub joined-count : counted .length ≡ length (take (counted .length) out′)
     joined-count = joined-size ∙ ap length (sym joined-front)
 
     pub joined-fits : counted .length ≤ length out′
     joined-fits =
-        let n = simp length-append at (ap length (call-done label out taken joined-room made .1)) in
+        let n = simp length-append at (ap length (call-done form8 label out taken joined-room made .1)) in
         omega (arith, joined-size, n)
 
     pub joined-most : length out ≤ 88 → length (take (counted .length) out′) ≤ 88
@@ -207,11 +208,11 @@ module _ (image : List ℕ) (k : ℕ) (label : List ℕ) where
 module _ (form : Form) (label : List ℕ) {n : ℕ} (found : n ≡ firstIll label) where
   label-ill : n < length label → noLabel form label ≡ refuses 7 8
   unfolding noLabel
-  label-ill h = simp (ne-eqb (illText label) 0 (λ e. omega (arith, ill-none label e)))
+  label-ill h = simp (ne-eqb (illText label) 0 (λ e. omega (arith, first-ill-none encodes8 label e)))
 
   label-formed : length label ≤ n → noLabel form label ≡ tooMany (stored form label)
   unfolding noLabel tooMany
-  label-formed h = simp (eq-eqb (illText label) 0 (formed-end label (omega arith)))
+  label-formed h = simp (eq-eqb (illText label) 0 (first-ill-end encodes8 label (omega arith)))
 
 -- ---- the call's returns
 

@@ -3,7 +3,7 @@ use crate::image;
 use crate::layout;
 use answers::Checked;
 use answers::Refusal;
-use utf8::Read;
+use encodings::Read;
 ghost use mathlib.Core.Path.{_≡_};
 ghost use Prim.Native.Nat.{_+_, _*_, _≤_};
 ghost use lib.ListN.{length};

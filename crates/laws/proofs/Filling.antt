@@ -99,15 +99,15 @@ module _ {A : Type 0} where
 -- ---- fitted: all of a list, or nothing
 
 module _ {A : Type 0} where
-  fitted-all : (xs out : List A) (at : ℕ) → at + length xs ≤ length out → fitted xs out at ≡ xs
+  pub fitted-all : (xs out : List A) (at : ℕ) → at + length xs ≤ length out → fitted xs out at ≡ xs
   unfolding fitted
   fitted-all xs out at h = rw (le-leb (at + length xs) (length out) h)
 
-  fitted-none : (xs out : List A) (at : ℕ) → length out < at + length xs → fitted xs out at ≡ []
+  pub fitted-none : (xs out : List A) (at : ℕ) → length out < at + length xs → fitted xs out at ≡ []
   unfolding fitted
   fitted-none xs out at h = rw (lt-leb (at + length xs) (length out) h)
 
-  fitted-nil : (out : List A) (at : ℕ) → fitted [] out at ≡ []
+  pub fitted-nil : (out : List A) (at : ℕ) → fitted [] out at ≡ []
   unfolding fitted
   fitted-nil out at = by (leb (at + 0) (length out))
     where

@@ -6,9 +6,4 @@ pub mod Ranges
 pub mod Tables
 pub mod Strings
 pub mod Machines
-pub mod Pieces
-pub mod Seams
-pub mod Readings
-pub mod Places
-pub mod Damage
 pub mod Filling

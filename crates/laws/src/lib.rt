@@ -1,2 +1,2 @@
-// The general laws: lists, ranges, strings, tables, machines, pieces, damage, writing. It knows
-// nothing of Hangul and has no code: definitions stand in specs/, laws in proofs/.
+// The general laws: lists, ranges, strings, tables, machines, writing to a buffer. It knows nothing
+// of Hangul nor of any encoding, and has no code: definitions stand in specs/, laws in proofs/.

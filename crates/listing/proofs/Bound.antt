@@ -9,10 +9,11 @@ use Rattle.letters.specs.Syllables.{isSyllable}
 use Rattle.letters.proofs.Steps.{syllable-least, syllable-most, syllable-above}
 use Rattle.utf8.specs.Utf8.{bytesOf}
 use Rattle.utf8.proofs.Writing.{long-three, bytes-least}
-use Rattle.mending.proofs.Bound.{each-most}
+use Rattle.utf8.proofs.Round.{encodes8}
+use Rattle.mending.proofs.Bound.{each-most, bounded8}
 use Rattle.listing.specs.Line.{lineOf}
-use Rattle.listing.proofs.LineBound.{line-named, line-few}
 use Rattle.listing.specs.Listing.{listed}
+use Rattle.listing.proofs.LineBound.{line-named, line-few}
 
 line-bytes : (c : ℕ) → length (lineOf c) ≤ 10 * length (bytesOf c)
 line-bytes c =
@@ -24,5 +25,5 @@ line-bytes c =
 pub listed-most : (t : List ℕ) → length (listed t) ≤ 10 * length t
 unfolding listed
 listed-most t =
-    each-most lineOf 10
-    (record { of-code = λ c g. line-bytes c; of-ill = omega (arith, line-few 0xFFFD (syllable-above 0xFFFD (omega arith))) }) t
+    each-most encodes8 lineOf 10
+    (bounded8 lineOf 10 (λ c g. line-bytes c) (omega (arith, line-few 0xFFFD (syllable-above 0xFFFD (omega arith))))) t

@@ -11,15 +11,16 @@ use Rattle.laws.specs.Lists.{each}
 use Rattle.laws.specs.Writing.{Room, Wrote, Fronts}
 use Rattle.laws.proofs.Lists.{each-nil, each-cons}
 use Rattle.laws.proofs.Filling.{Piece, wrote-length, Filling, filling-none, filling-room, filling-more, filling-all, Counting, counting-none, counting-fits, counting-more, counting-all}
-use Rattle.utf8.specs.declared.decode.Taken.{Taken}
+use Rattle.encodings.specs.declared.answer.Taken.{Taken}
+use Rattle.utf8.specs.Utf8.{form8}
 use Rattle.mending.proofs.Characters.{Character}
 use Rattle.listing.specs.Line.{lineOf}
-use Rattle.listing.proofs.LineBound.{line-most}
 use Rattle.listing.specs.Listing.{listed}
+use Rattle.listing.proofs.LineBound.{line-most}
 use Rattle.listing.proofs.Bound.{listed-most}
 
 module _ (text : List ℕ) (at : ℕ) where
-  pub listed-next : {t : Taken} → Character text at t → Piece (listed (drop at text)) (lineOf (t .code)) (listed (drop (at + t .size) text))
+  pub listed-next : {t : Taken} → Character form8 text at t → Piece (listed (drop at text)) (lineOf (t .code)) (listed (drop (at + t .size) text))
   unfolding listed
   listed-next {t} c = record { eq = ap (each lineOf) (c .joins) ∙ each-cons lineOf (t .code) _ }
 
@@ -38,7 +39,7 @@ module _ (text : List ℕ) {out₀ : List ℕ} where
   writing-none = record { inside = omega arith; filling = filling-none (listed text) out₀ }
 
   module _ {out : List ℕ} {read written : ℕ} (w : Writing text out₀ out read written) where
-    module _ (fits : length (listed text) ≤ length out₀) {t : Taken} (character : Character text read t) where
+    module _ (fits : length (listed text) ≤ length out₀) {t : Taken} (character : Character form8 text read t) where
       pub line-room : Room out written (lineOf (t .code))
       line-room = filling-room fits (w .filling) (listed-next text read character)
 
@@ -66,7 +67,7 @@ module _ (text : List ℕ) {line : List ℕ} where
     pub place-room : (c : ℕ) → Room line 0 (lineOf c)
     place-room c = record { fits = omega (arith, w .place, line-most c) }
 
-    module _ {t : Taken} (character : Character text read t) {k : ℕ} {line′ : List ℕ} (wrote : Wrote line 0 (lineOf (t .code)) k line′) where
+    module _ {t : Taken} (character : Character form8 text read t) {k : ℕ} {line′ : List ℕ} (wrote : Wrote line 0 (lineOf (t .code)) k line′) where
       length-is : k ≡ length (lineOf (t .code))
       length-is = omega (arith, wrote .behind)
 

@@ -13,58 +13,62 @@ use lib.Dec.{ltb, leb, eqb}
 use lib.ListN.{length, getD, drop}
 use borrow.Author.Tests.{ltb-true, ltb-false, leb-true, leb-false, eqb-true, eqb-false}
 use Rattle.laws.specs.Ranges.{within}
-use Rattle.laws.specs.Pieces.{pieces}
 use Rattle.laws.proofs.Bools.{test}
 use Rattle.laws.proofs.Ranges.{within-yes, within-least, within-most}
 use Rattle.letters.proofs.Steps.{syllable-least}
 use Rattle.joining.specs.Roles.{pair}
 use Rattle.joining.proofs.Roles.{role-between, initial-range, peak-range, lv-syllable}
 use Rattle.joining.proofs.Pairs.{pair-other}
-use Rattle.utf8.specs.Table37.{_to_, continuation, kindOf}
-use Rattle.utf8.specs.Reading.{goodOf, illOf, takenFrom}
-use Rattle.utf8.specs.declared.decode.Taken.{Taken}
-use Rattle.utf8.proofs.Rows.{row-between, outside}
-use Rattle.utf8.proofs.Takes.{before-end, begins-between, Stands, begun, goes-on, broken-taken, none-taken}
+use Rattle.encodings.specs.Pieces.{pieces}
+use Rattle.encodings.specs.Rows.{_to_}
+use Rattle.encodings.specs.Reading.{goodOf, illOf}
+use Rattle.encodings.specs.declared.answer.Taken.{Taken}
+use Rattle.encodings.proofs.Rows.{row-between, row-bad, outside}
+use Rattle.encodings.proofs.Taking.{nonzero-inside, begins-between, Stands, goes-on, broken-taken, none-taken}
+use Rattle.utf8.specs.Utf8.{form8}
+use Rattle.utf8.specs.Table37.{table37, continuation, kindOf}
+use Rattle.utf8.specs.Reading.{takenFrom}
+use Rattle.utf8.proofs.Rows.{begun8}
 use Rattle.mending.specs.Characters.{characterFrom, roleGoesOn}
 use Rattle.mending.specs.Inner.{tailOf, Tail, OfTail, Triple}
-use Rattle.mending.proofs.Characters.{first-all}
-use Rattle.mending.proofs.Spelling.{first-grown, grown-stays}
+use Rattle.mending.proofs.Characters.{character-of-one, character-grown, grown-stays}
 
 -- ---- AN ILL-FORMED SUBPART: it reads as FFFD, which joins with nothing
 
 module _ (text : List ℕ) (at : ℕ) where
   ill-alone : {n : ℕ} → illOf n ≡ takenFrom (pieces kindOf (drop at text)) → characterFrom (pieces kindOf (drop at text)) ≡ illOf n
-  ill-alone e = sym (first-all text at e (ap roleGoesOn (role-between 0xFFFD 0xFFFD 0xFFFD tt (omega arith) (omega arith))))
+  ill-alone e = sym (character-of-one form8 text at e (ap roleGoesOn (role-between 0xFFFD 0xFFFD 0xFFFD tt (omega arith) (omega arith))))
 
   module _ {first : ℕ} (is : first ≡ getD text at 0) where
     pub stray-character : 0x80 ≤ first → first < 0xC2 → characterFrom (pieces kindOf (drop at text)) ≡ illOf 1
     stray-character l m =
-        ill-alone (none-taken text at (before-end text at is (omega arith)) is (row-between 0x80 0xC1 tt l (omega arith)) refl)
+        ill-alone (none-taken form8 text at (nonzero-inside text at is (omega arith)) is
+        (row-bad table37 first (row-between table37 0x80 0xC1 tt l (omega arith))) refl)
 
     module _ (l : 0xE1 ≤ first) (m : first ≤ 0xEF) where
       -- three bytes are begun; after ED the second one is 9F at most
-      three-begun : {G : Type 0} → (Stands text at first [] (suc at) (continuation ∷ continuation ∷ []) → G)
-          → (first ≡ 0xED → Stands text at first [] (suc at) ((0x80 to 0x9F) ∷ continuation ∷ []) → G) → G
+      three-begun : {G : Type 0} → (Stands form8 text at first [] (suc at) (continuation ∷ continuation ∷ []) → G)
+          → (first ≡ 0xED → Stands form8 text at first [] (suc at) ((0x80 to 0x9F) ∷ continuation ∷ []) → G) → G
       three-begun other ed =
-          let h : at < length text = before-end text at is (omega arith) in
+          let h : at < length text = nonzero-inside text at is (omega arith) in
           test (ltb first 0xED)
           (λ q.
           let k : first ≤ 0xEC = omega (arith, ltb-true first 0xED q) in
-          other (begun (begins-between 0xE1 0xEC tt {lo = 0xE1} {hi = 0xEC} h is l k (omega arith) (omega arith))))
+          other (begun8 (begins-between table37 0xE1 0xEC tt {lo = 0xE1} {hi = 0xEC} h is l k (omega arith) (omega arith))))
           (λ q.
           test (eqb first 0xED)
           (λ p.
           let e : first ≡ 0xED = eqb-true first 0xED p in
-          ed e (begun (begins-between 0xED 0xED tt {lo = 0xED} {hi = 0xED} h is (omega arith) (omega arith) (omega arith) (omega arith))))
+          ed e (begun8 (begins-between table37 0xED 0xED tt {lo = 0xED} {hi = 0xED} h is (omega arith) (omega arith) (omega arith) (omega arith))))
           (λ p.
           let k : 0xEE ≤ first = omega (arith, ltb-false first 0xED q, eqb-false first 0xED p) in
-          other (begun (begins-between 0xEE 0xEF tt {lo = 0xEE} {hi = 0xEF} h is k m (omega arith) (omega arith)))))
+          other (begun8 (begins-between table37 0xEE 0xEF tt {lo = 0xEE} {hi = 0xEF} h is k m (omega arith) (omega arith)))))
 
       module _ {second : ℕ} (second-is : second ≡ getD text (at + 1) 0) where
         pub second-character : within 0x80 0xBF second ≡ false → characterFrom (pieces kindOf (drop at text)) ≡ illOf 1
         second-character w =
             ill-alone (three-begun (λ s. broken-taken s second-is (omega arith) w refl)
-            (λ e s. broken-taken s second-is (omega arith) (outside 0x80 0x9F second (omega arith) (omega arith) w) refl))
+            (λ e s. broken-taken s second-is (omega arith) (outside 0x80 0xBF 0x80 0x9F second (omega arith) (omega arith) w) refl))
 
         pub third-character : (first ≡ 0xED → ⊥) → within 0x80 0xBF second ≡ true → {third : ℕ} → third ≡ getD text (at + 2) 0
             → within 0x80 0xBF third ≡ false → characterFrom (pieces kindOf (drop at text)) ≡ illOf 2
@@ -148,5 +152,5 @@ module _ (text : List ℕ) (at : ℕ) {tail : ℕ} (found : Tail text at tail) {
   pub letter-character : r ≡ characterFrom (pieces kindOf (drop at text))
   letter-character =
       letter .whole
-      ∙ sym (first-grown text at (sym (found .is (r .code) (letter .least) (letter .most) (letter .is)))
-      ∙ grown-stays (goodOf (r .code) 3) text (at + 3) refl letter-apart)
+      ∙ sym (character-grown form8 text at (sym (found .is (r .code) (letter .least) (letter .most) (letter .is)))
+      ∙ grown-stays form8 (goodOf (r .code) 3) text (at + 3) refl letter-apart)

@@ -1,15 +1,14 @@
 -- Bytes that pass: parts of a text that stand in the mended text as they stand in the text.
 --
--- In order: nothing, and one part after the other (`passes-none`, `passes-on`); a well-formed
--- sequence that joins with nothing after it (`character-full`, `passes-full`); ASCII, one byte and
--- eight (`low-character`, `low-passes`, `low-eight`); a letter of the block 1100–11FF begins with
--- E1 (`letter-first`), so before any other byte nothing joins (`apart-behind`) and a character of
--- three bytes passes (`three-stands`, `three-character`, `three-passes`), also as the last of a
--- text (`three-last`); its first two bytes, tested in one number (`lead-number`, `lead-three`); the
--- high bits of eight bytes, tested so (`bit-none`, `word-low`).
+-- In order: ASCII, one byte and eight (`low-character`, `low-passes`, `low-eight`); a letter of the
+-- block 1100–11FF begins with E1 (`letter-first`), so before any other byte nothing joins
+-- (`apart-behind`) and a character of three bytes passes (`three-stands`, `three-character`,
+-- `three-passes`), also as the last of a text (`three-last`); its first two bytes, tested in one
+-- number (`lead-number`, `lead-three`); the high bits of eight bytes, tested so (`bit-none`,
+-- `word-low`); and a character that has room was written (`fits-placed`).
 use mathlib.Core.Path.{_≡_, refl, sym, _∙_, ap}
 use mathlib.Core.Bool.{true}
-use mathlib.Core.List.{List, [], _∷_, _++_, append-assoc}
+use mathlib.Core.List.{List, [], _∷_, _++_}
 use Prim.Native.Nat.{ℕ, suc, _+_, _*_, _/_, _%_, _^_, _≤_, _<_}
 use native.Mathlib.Nat.{add-zero, zero-div}
 use native.Mathlib.Numerals.{add-one}
@@ -20,57 +19,27 @@ use lib.ListN.{length, getD, drop, List·getD-eq-default}
 use lib.Seq.{drop-cons, getD-drop}
 use borrow.Author.Tests.{eq-eqb, eqb-true, ltb-true, ltb-false}
 use Rattle.laws.specs.Ranges.{within}
-use Rattle.laws.specs.Pieces.{Piece, full, good, pieces}
-use Rattle.laws.specs.Readings.{Reading, nothing, formed, broken}
+use Rattle.laws.specs.Writing.{fitted, Wrote}
 use Rattle.laws.proofs.Bools.{test}
 use Rattle.laws.proofs.Ranges.{within-least, within-most}
 use Rattle.joining.specs.Roles.{pair}
 use Rattle.joining.proofs.Roles.{role-between, peak-range, final-range}
 use Rattle.joining.proofs.Pairs.{pair-before, pair-none}
-use Rattle.utf8.specs.Table37.{kindOf}
-use Rattle.utf8.specs.Utf8.{valueOf}
-use Rattle.utf8.specs.Reading.{goodOf}
-use Rattle.utf8.proofs.Rows.{row-between}
-use Rattle.utf8.proofs.Forms.{ends, goes, full-by}
+use Rattle.encodings.specs.Pieces.{Piece, full, pieces}
+use Rattle.encodings.specs.Readings.{Reading, nothing, formed, broken}
+use Rattle.encodings.specs.Reading.{goodOf}
+use Rattle.encodings.specs.declared.answer.Taken.{Taken}
+use Rattle.encodings.proofs.Rows.{row-between, ends, goes, full-by}
+use Rattle.encodings.proofs.Texts.{code-fits, reading-in}
+use Rattle.utf8.specs.Table37.{table37, kindOf}
+use Rattle.utf8.specs.Utf8.{valueOf, form8, codeBytes}
 use Rattle.utf8.proofs.Writing.{bytes-three}
-use Rattle.utf8.proofs.Reading.{reading8}
-use Rattle.utf8.proofs.Round.{full-piece, full-bytes}
-use Rattle.mending.specs.Characters.{grown, characterFrom}
-use Rattle.mending.specs.Inner.{Passes, Three, Lead, Low, wordOf}
-use Rattle.mending.proofs.Characters.{apart-ill, stops, Character, character-next}
-
--- ---- nothing, and one part after the other
-
-pub passes-none : (text : List ℕ) (at : ℕ) → at ≤ length text → Passes text at at
-passes-none text at h =
-    record { same = []; stands = refl; goes = record { mends = refl; ills = omega arith; on = omega arith; inside = h } }
-
-pub passes-on : {text : List ℕ} {a b c : ℕ} → Passes text a b → Passes text b c → Passes text a c
-passes-on p q = record {
-  same = p .same ++ q .same;
-  stands = p .stands ∙ rw (q .stands, append-assoc);
-  goes = record {
-    mends = p .goes .mends ∙ rw (q .goes .mends, append-assoc);
-    ills = omega (arith, p .goes .ills, q .goes .ills);
-    on = omega (arith, p .goes .on, q .goes .on);
-    inside = q .goes .inside;
-  };
-}
-
--- ---- A WELL-FORMED SEQUENCE THAT JOINS WITH NOTHING BEHIND IT
-
-module _ (text : List ℕ) (at : ℕ) (u : List ℕ) (stands : drop at text ≡ u ++ drop (at + length u) text) (f : kindOf u ≡ full) where
-  piece-front : pieces kindOf (drop at text) ≡ good u ∷ pieces kindOf (drop (at + length u) text)
-  piece-front = ap (pieces kindOf) stands ∙ full-piece u (drop (at + length u) text) f
-
-  -- it is a character
-  pub character-full : grown (goodOf (valueOf u) (length u)) (pieces kindOf (drop (at + length u) text)) ≡ goodOf (valueOf u) (length u)
-      → goodOf (valueOf u) (length u) ≡ characterFrom (pieces kindOf (drop at text))
-  character-full e = sym e ∙ sym (ap characterFrom piece-front)
-
-  -- and passes
-  pub passes-full : at < length text → goodOf (valueOf u) (length u) ≡ characterFrom (pieces kindOf (drop at text)) → Passes text at (at + length u)
-  passes-full h e = record { same = u; stands = stands; goes = rw (full-bytes u f) at (character-next text at h e .goes) }
+use Rattle.utf8.proofs.Round.{encodes8, full-bytes}
+use Rattle.mending.specs.Characters.{grownIn, characterFrom}
+use Rattle.mending.specs.Inner.{Passes, Three, Lead, Low, wordOf, Fits, Placed}
+use Rattle.mending.specs.declared.text.At.{At}
+use Rattle.mending.proofs.Characters.{apart-ill, grown-stops, character-full}
+use Rattle.mending.proofs.Turns.{passes-none, passes-on, passes-full, wrote-placed}
 
 -- ---- ASCII
 
@@ -79,16 +48,16 @@ module _ (text : List ℕ) (at : ℕ) (h : at < length text) (l : getD text at 0
   low-stands = rw add-one (drop-cons text at 0 h)
 
   low-full : kindOf (getD text at 0 ∷ []) ≡ full
-  low-full = full-by (getD text at 0) (row-between 0x00 0x7F tt (omega arith) (omega arith)) ends
+  low-full = full-by table37 (getD text at 0) (row-between table37 0x00 0x7F tt (omega arith) (omega arith)) ends
 
   pub low-character : goodOf (getD text at 0) 1 ≡ characterFrom (pieces kindOf (drop at text))
   low-character =
       let a = getD text at 0 in
-      character-full text at (a ∷ []) low-stands low-full
-      (stops (goodOf a 1) (pieces kindOf (drop (at + 1) text)) (λ b. pair-none a b (role-between 0x00 0x7F a tt (omega arith) (omega arith))))
+      character-full encodes8 text at (a ∷ []) low-stands low-full
+      (grown-stops form8 (goodOf a 1) (pieces kindOf (drop (at + 1) text)) (λ b. pair-none a b (role-between 0x00 0x7F a tt (omega arith) (omega arith))))
 
   pub low-passes : Passes text at (at + 1)
-  low-passes = passes-full text at (getD text at 0 ∷ []) low-stands low-full h low-character
+  low-passes = passes-full encodes8 text at (getD text at 0 ∷ []) low-stands low-full h low-character
 
 -- one byte in front of what passes
 low-on : (text : List ℕ) (at to : ℕ) → to ≡ at + 1 → getD text at 0 < 0x80 → {end : ℕ} → Passes text to end → Passes text at end
@@ -119,7 +88,7 @@ letter-first u t f l m =
 
 -- the letters that join with what stands before them are such: before any other byte a character
 -- takes in nothing
-apart-reading : (c n : ℕ) {t : List ℕ} {P : List (Piece ℕ)} → Reading kindOf t P → (getD t 0 0 ≡ 0xE1 → ⊥) → grown (goodOf c n) P ≡ goodOf c n
+apart-reading : (c n : ℕ) {t : List ℕ} {P : List (Piece ℕ)} → Reading kindOf t P → (getD t 0 0 ≡ 0xE1 → ⊥) → grownIn form8 (goodOf c n) P ≡ goodOf c n
 apart-reading c n nothing h = refl
 apart-reading c n (formed u {t} f r) h =
     let no : 0x1000 ≤ valueOf u → valueOf u < 0x2000 → ⊥ = λ l m. h (letter-first u t f l m) in
@@ -129,19 +98,19 @@ apart-reading c n (formed u {t} f r) h =
 apart-reading c n (broken u m r) h =
     rw (eq-eqb (pair c 0xFFFD) 0 (apart-ill c))
 
-pub apart-behind : (c n : ℕ) (t : List ℕ) → (getD t 0 0 ≡ 0xE1 → ⊥) → grown (goodOf c n) (pieces kindOf t) ≡ goodOf c n
-apart-behind c n t h = apart-reading c n (reading8 t) h
+pub apart-behind : (c n : ℕ) (t : List ℕ) → (getD t 0 0 ≡ 0xE1 → ⊥) → grownIn form8 (goodOf c n) (pieces kindOf t) ≡ goodOf c n
+apart-behind c n t h = apart-reading c n (reading-in encodes8 t) h
 
 -- a, b and c are well-formed
 three-full : {a b c d : ℕ} → Three a b c d → kindOf (a ∷ b ∷ c ∷ []) ≡ full
 three-full {a} {b} {c} h =
     test (ltb a 0xED)
     (λ q.
-    full-by a (row-between 0xE1 0xEC tt (omega (arith, h .least)) (omega (arith, ltb-true a 0xED q)))
+    full-by table37 a (row-between table37 0xE1 0xEC tt (omega (arith, h .least)) (omega (arith, ltb-true a 0xED q)))
     (goes (h .second-least) (h .second-most) (goes (h .third-least) (h .third-most) ends)))
     (λ q.
     let e : a ≡ 0xED = omega (arith, h .most, ltb-false a 0xED q) in
-    full-by a (row-between 0xED 0xED tt (omega arith) (omega arith))
+    full-by table37 a (row-between table37 0xED 0xED tt (omega arith) (omega arith))
     (goes (h .second-least) (h .second-ed e) (goes (h .third-least) (h .third-most) ends)))
 
 -- they stand in front
@@ -166,12 +135,12 @@ module _ (text : List ℕ) (at : ℕ) (h : at + 3 ≤ length text) {d : ℕ} (e 
   three-character =
       let u = getD text at 0 ∷ getD text (at + 1) 0 ∷ getD text (at + 2) 0 ∷ [] in
       let next : getD (drop (at + 3) text) 0 0 ≡ getD text (at + 3) 0 = getD-drop (at + 3) text 0 0 ∙ rw add-zero in
-      character-full text at u (three-stands text at h) (three-full t)
+      character-full encodes8 text at u (three-stands text at h) (three-full t)
       (apart-behind (valueOf u) 3 (drop (at + 3) text) (λ z. t .apart (e ∙ sym next ∙ z)))
 
   pub three-passes : Passes text at (at + 3)
   three-passes =
-      passes-full text at (getD text at 0 ∷ getD text (at + 1) 0 ∷ getD text (at + 2) 0 ∷ []) (three-stands text at h) (three-full t) (omega arith)
+      passes-full encodes8 text at (getD text at 0 ∷ getD text (at + 1) 0 ∷ getD text (at + 2) 0 ∷ []) (three-stands text at h) (three-full t) (omega arith)
       three-character
 
 -- the last three bytes of a text
@@ -228,3 +197,11 @@ word-low {w = w} ha hb hc hd he hf hg hh is q = record {
   where
     bit : (k : ℕ) → 0x8080808080808080 / 2 ^ k % 2 ≡ 1 → w / 2 ^ k % 2 ≡ 0
     bit k t = bit-none w 0x8080808080808080 k (eqb-true (bitAnd w 0x8080808080808080) 0 q) t
+
+-- ---- a character that has room was written
+
+pub fits-placed : {out : List ℕ} {s : At} {t : Taken} → Fits out s t → {k : ℕ} {out′ : List ℕ}
+    → Wrote out (s .written) (fitted (codeBytes (t .code)) out (s .written)) k out′
+    → Placed out s t (record { read = s .read + t .size; written = k; ills = s .ills + t .ill }) out′
+fits-placed {out} {s} {t} h w =
+    wrote-placed (rw (code-fits form8 (t .code) out (s .written) (h .code) (h .room .fits)) at w)

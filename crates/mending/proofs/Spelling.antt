@@ -1,40 +1,37 @@
 -- A syllable that stands as single letters, by its bytes. In order: the bytes of a letter of the
 -- block 1100–11FF at an index, and back (`Letter`, `letter-bytes`, `bytes-letter`); a letter by its
 -- tail (`tail-short`, `tail-other`, `tail-three`); F of a final (`final-low`, `final-high`,
--- `final-none`); a character that takes in what is read after it (`first-grown`, `grown-takes`,
--- `grown-stays`); and a syllable of two letters and of three (`spelled-none`, `initial-inside`,
+-- `final-none`); and a syllable of two letters and of three (`spelled-none`, `initial-inside`,
 -- `spelled-two`, `spelled-three`).
 use mathlib.Core.Path.{_≡_, refl, sym, _∙_, ap}
-use mathlib.Core.Bool.{Bool, true, false, cond}
 use mathlib.Core.List.{List, [], _∷_, _++_}
 use Prim.Native.Nat.{ℕ, _+_, _-_, _*_, _/_, _%_, _≤_, _<_}
 use native.Mathlib.Nat.{add-zero}
 use native.Mathlib.Omega.{arith}
-use lib.Dec.{ltb, eqb}
+use lib.Dec.{ltb}
 use lib.Seq.{getD-drop}
 use lib.ListN.{length, getD, drop, length-drop}
-use borrow.Author.Tests.{ltb-true, ltb-false, eq-eqb, ne-eqb}
+use borrow.Author.Tests.{ltb-true, ltb-false}
 use Rattle.laws.specs.Ranges.{within}
-use Rattle.laws.specs.Pieces.{Piece, units, pieces}
-use Rattle.laws.specs.Damage.{codeOf}
-use Rattle.laws.specs.Readings.{Reading, nothing, formed, broken}
 use Rattle.laws.proofs.Bools.{test}
 use Rattle.laws.proofs.Ranges.{within-yes, within-least, within-most}
 use Rattle.answers.proofs.Checks.{good-low}
 use Rattle.joining.specs.Roles.{pair}
 use Rattle.joining.proofs.Roles.{initial-range, final-range}
 use Rattle.joining.proofs.Pairs.{two-letters, three-letters, pair-other, no-fourth}
+use Rattle.encodings.specs.Pieces.{Piece, pieces}
+use Rattle.encodings.specs.Readings.{Reading, nothing, formed, broken}
+use Rattle.encodings.specs.Reading.{goodOf}
+use Rattle.encodings.specs.declared.answer.Taken.{Taken}
+use Rattle.encodings.proofs.Texts.{reading-in, units-piece}
 use Rattle.utf8.specs.Table37.{kindOf}
-use Rattle.utf8.specs.Utf8.{utf8, bytesOf, valueOf}
-use Rattle.utf8.specs.Reading.{goodOf, takenFrom}
-use Rattle.utf8.specs.declared.decode.Taken.{Taken}
-use Rattle.utf8.proofs.Takes.{behind}
+use Rattle.utf8.specs.Utf8.{form8, bytesOf}
+use Rattle.utf8.specs.Reading.{takenFrom}
 use Rattle.utf8.proofs.Writing.{bytes-three, long-three}
-use Rattle.utf8.proofs.Reading.{reading8}
-use Rattle.utf8.proofs.Round.{full-bytes, bytes-piece, bytes-value}
-use Rattle.mending.specs.Characters.{meetsPiece, taking, grown, behindFirst, characterFrom}
+use Rattle.utf8.proofs.Round.{encodes8, full-bytes, bytes-value}
+use Rattle.mending.specs.Characters.{grownIn, characterFrom}
 use Rattle.mending.specs.Inner.{tailOf, Tail, lastOf}
-use Rattle.mending.proofs.Characters.{apart-end, taken-code, taken-size, stops, behind-first}
+use Rattle.mending.proofs.Characters.{grown-stops, character-grown, grown-takes, grown-stays}
 use Rattle.mending.proofs.Passes.{three-stands}
 
 -- ---- the bytes of a letter
@@ -70,7 +67,7 @@ module _ (c : ℕ) (least : 0x1100 ≤ c) (most : c ≤ 0x11FF) where
 
     letter-bytes : takenFrom (pieces kindOf (drop at text)) .code ≡ c → Letter text at c
     letter-bytes e =
-        let r = letter-reading (reading8 (drop at text)) e in
+        let r = letter-reading (reading-in encodes8 (drop at text)) e in
         letter-stands (r .0) (r .1)
 
     letter-taken-inside : goodOf c 3 ≡ takenFrom (pieces kindOf (drop at text)) → at + 3 ≤ length text
@@ -80,7 +77,7 @@ module _ (c : ℕ) (least : 0x1100 ≤ c) (most : c ≤ 0x11FF) where
     bytes-letter l =
         let s : drop at text ≡ bytesOf c ++ drop (at + 3) text =
         three-stands text at (l .inside) ∙ rw (l .first, l .second, l .third, letter-first) in
-        ap (λ (x : List ℕ). takenFrom (pieces kindOf x)) s ∙ ap takenFrom (bytes-piece c (good-low c (omega arith)) (drop (at + 3) text))
+        ap (λ (x : List ℕ). takenFrom (pieces kindOf x)) s ∙ ap takenFrom (units-piece encodes8 c (good-low c (omega arith)) (drop (at + 3) text))
         ∙ rw (bytes-value c, ← (long-three c (omega arith) (omega arith)))
 
 -- ---- a letter by its tail
@@ -160,40 +157,6 @@ module _ (text : List ℕ) (at : ℕ) {r : ℕ} (tail : Tail text at r) where
       absurd (high (omega (arith, e, tail-high c h m)) (omega (arith, e, tail-high c h m)))))
       (λ e. sym e)
 
--- ---- a character that takes in what is read after it
-
-pub first-grown : (text : List ℕ) (at : ℕ) {t : Taken} → t ≡ takenFrom (pieces kindOf (drop at text))
-    → characterFrom (pieces kindOf (drop at text)) ≡ grown t (pieces kindOf (drop (at + t .size) text))
-first-grown text at {t} e =
-    ap (λ (x : Taken). grown x (behindFirst (pieces kindOf (drop at text)))) (sym e) ∙ ap (grown t) (sym (behind-first text at e))
-
-module _ (t : Taken) (text : List ℕ) (n : ℕ) {next : Taken} (read : next ≡ takenFrom (pieces kindOf (drop n text))) where
-  takes-on : (P : List (Piece ℕ)) → pieces kindOf (drop n text) ≡ P → next ≡ takenFrom P → (pair (t .code) (next .code) ≡ 0 → ⊥)
-      → grown t P ≡ grown (record {
-        code =
-            pair (t .code) (next .code);
-        size = t .size + next .size;
-        ill = t .ill;
-      }) (pieces kindOf (drop (n + next .size) text))
-  takes-on [] e q h = absurd (h (ap (λ (x : Taken). pair (t .code) (x .code)) q ∙ apart-end (t .code)))
-  takes-on (w ∷ P) e q h =
-      let k : next .code ≡ codeOf utf8 w = ap (λ (x : Taken). x .code) q ∙ taken-code w P in
-      let s : next .size ≡ length (units w) = ap (λ (x : Taken). x .size) q ∙ taken-size w P in
-      rw (s, behind text n w P e, k) (rw (ne-eqb (meetsPiece t w) 0 (λ (z : meetsPiece t w ≡ 0). h (ap (pair (t .code)) k ∙ z))))
-
-  pub grown-takes : (pair (t .code) (next .code) ≡ 0 → ⊥)
-      → grown t (pieces kindOf (drop n text))
-      ≡ grown (record { code = pair (t .code) (next .code); size = t .size + next .size; ill = t .ill }) (pieces kindOf (drop (n + next .size) text))
-  grown-takes h = takes-on (pieces kindOf (drop n text)) refl read h
-
-  stays-on : (P : List (Piece ℕ)) → next ≡ takenFrom P → pair (t .code) (next .code) ≡ 0 → grown t P ≡ t
-  stays-on [] q h = refl
-  stays-on (w ∷ P) q h =
-      rw (eq-eqb (meetsPiece t w) 0 (ap (pair (t .code)) (sym (ap (λ (x : Taken). x .code) q ∙ taken-code w P)) ∙ h))
-
-  pub grown-stays : pair (t .code) (next .code) ≡ 0 → grown t (pieces kindOf (drop n text)) ≡ t
-  grown-stays h = stays-on (pieces kindOf (drop n text)) read h
-
 -- ---- a syllable in letters: a is the tail of an initial at an index, and b that of a peak after it
 
 pub spelled-none : {r : Taken} {G : Type 0} → r ≡ goodOf 0 0 → (r .size ≡ 0 → ⊥) → G
@@ -221,11 +184,11 @@ module _ (text : List ℕ) (at : ℕ) {a : ℕ} (first : Tail text at a) (a-leas
 
     -- the two joined, and what stands after them
     pair-grown : characterFrom (pieces kindOf (drop at text))
-        ≡ grown (goodOf (0xAC00 + (a - 0x8480) * 588 + (b - 0x85A1) * 28) 6) (pieces kindOf (drop (at + 6) text))
+        ≡ grownIn form8 (goodOf (0xAC00 + (a - 0x8480) * 588 + (b - 0x85A1) * 28) 6) (pieces kindOf (drop (at + 6) text))
     pair-grown =
         let six : at + 3 + 3 ≡ at + 6 = omega arith in
         let n : pair (0x1100 + (a - 0x8480)) (0x1161 + (b - 0x85A1)) ≡ 0 → ⊥ = λ z. omega (arith, pair-is) in
-        first-grown text at initial-taken ∙ grown-takes (goodOf (0x1100 + (a - 0x8480)) 3) text (at + 3) peak-taken n ∙ rw (six, pair-is)
+        character-grown form8 text at initial-taken ∙ grown-takes form8 (goodOf (0x1100 + (a - 0x8480)) 3) text (at + 3) peak-taken n ∙ rw (six, pair-is)
 
     -- f is F of what stands after them
     module _ {f : ℕ} (found : f ≡ lastOf (takenFrom (pieces kindOf (drop (at + 6) text)) .code)) where
@@ -237,7 +200,7 @@ module _ (text : List ℕ) (at : ℕ) {a : ℕ} (first : Tail text at a) (a-leas
 
       pub spelled-two : f ≡ 0 → goodOf (0xAC00 + (a - 0x8480) * 588 + (b - 0x85A1) * 28) 6 ≡ characterFrom (pieces kindOf (drop at text))
       spelled-two e =
-          sym (pair-grown ∙ grown-stays (goodOf (0xAC00 + (a - 0x8480) * 588 + (b - 0x85A1) * 28) 6) text (at + 6) refl
+          sym (pair-grown ∙ grown-stays form8 (goodOf (0xAC00 + (a - 0x8480) * 588 + (b - 0x85A1) * 28) 6) text (at + 6) refl
           (last-apart _ (sym found ∙ e)))
 
       -- it is the final 11A7 + f
@@ -263,5 +226,5 @@ module _ (text : List ℕ) (at : ℕ) {a : ℕ} (first : Tail text at a) (a-leas
           let n : pair (0xAC00 + (a - 0x8480) * 588 + (b - 0x85A1) * 28) (0x11A7 + f) ≡ 0 → ⊥ = λ z. omega (arith, t) in
           let d : (d : ℕ) → pair (0xAC00 + (a - 0x8480) * 588 + (b - 0x85A1) * 28 + f) d ≡ 0 =
           λ d. rw (pair-is, t) at (no-fourth (0x1100 + (a - 0x8480)) (0x1161 + (b - 0x85A1)) (0x11A7 + f) d) in
-          sym (pair-grown ∙ grown-takes (goodOf (0xAC00 + (a - 0x8480) * 588 + (b - 0x85A1) * 28) 6) text (at + 6) (last-taken h) n
-          ∙ rw t (stops (goodOf (0xAC00 + (a - 0x8480) * 588 + (b - 0x85A1) * 28 + f) 9) (pieces kindOf (drop (at + 6 + 3) text)) d))
+          sym (pair-grown ∙ grown-takes form8 (goodOf (0xAC00 + (a - 0x8480) * 588 + (b - 0x85A1) * 28) 6) text (at + 6) (last-taken h) n
+          ∙ rw t (grown-stops form8 (goodOf (0xAC00 + (a - 0x8480) * 588 + (b - 0x85A1) * 28 + f) 9) (pieces kindOf (drop (at + 6 + 3) text)) d))

@@ -1,9 +1,10 @@
--- One turn of the loops over a text, and the loops. In order: the bytes between two indices, copied
--- one by one (`Copying` and its laws); a part that passes by its length (`passes-length`); a turn
--- that writes: a character has room and was written (`wrote-placed`, `fits-placed`,
--- `character-fits`, `character-moved`), so with bytes that pass (`passes-room`, `passes-moved`); a
--- turn that counts (`count-fits`, `count-character`, `passes-count`, `count-passes`); and what the
--- two loops keep (`Writing`, `Tallying`, with their laws) up to the end (`mended-end`).
+-- One turn of the loops over a text, and the loops, in any encoding form. In order: the units between
+-- two indices, copied one by one (`Copying` and its laws); a part that passes (`passes-none`,
+-- `passes-on`, `passes-full`, `passes-length`); a turn that writes: a character has room and was
+-- written (`wrote-placed`, `character-fits`, `character-moved`), so with units that pass
+-- (`passes-room`, `passes-moved`); a turn that counts (`count-fits`, `count-character`,
+-- `passes-count`, `count-passes`); and what the two loops keep (`Writing`, `Tallying`, with their
+-- laws) up to the end (`mended-end`).
 use mathlib.Core.Path.{_≡_, refl, sym, _∙_, ap}
 use mathlib.Core.List.{List, [], _∷_, _++_, append-assoc}
 use Prim.Native.Nat.{ℕ, _+_, _-_, _*_, _≤_, _<_}
@@ -11,24 +12,25 @@ use native.Mathlib.Numerals.{add-one}
 use native.Mathlib.Omega.{arith}
 use lib.Seq.{drop-cons}
 use lib.ListN.{length, getD, drop, set, length-append, length-drop, drop-of-length-le}
-use Rattle.laws.specs.Writing.{Room, Wrote, Fronts}
+use Rattle.laws.specs.Writing.{Wrote}
 use Rattle.laws.proofs.Lists.{cut-front, each-nil}
 use Rattle.laws.proofs.Filling.{Filling, Counting, wrote-one, wrote-none, wrote-two, wrote-length, counting-none, counting-more, counting-all, filling-none, filling-count, filling-length, filling-more, filling-all}
 use Rattle.answers.proofs.Checks.{good-most}
-use Rattle.utf8.specs.Utf8.{bytesOf, illText, fitting}
-use Rattle.utf8.specs.Reading.{ReadFronts}
-use Rattle.utf8.specs.declared.decode.Taken.{Taken}
-use Rattle.utf8.proofs.Writing.{fitting-all}
-use Rattle.utf8.proofs.Reading.{read-most, ills-most}
-use Rattle.mending.specs.Mending.{mended}
-use Rattle.mending.specs.Inner.{Goes, Passes, Copies, Ready, Moved, Fits, Placed, CountReady, CountMoved, CountFits, CountPlaced}
+use Rattle.encodings.specs.Pieces.{full}
+use Rattle.encodings.specs.Forms.{Form, Encodes, piecesIn, illIn}
+use Rattle.encodings.specs.Reading.{goodOf, ReadFrontsIn}
+use Rattle.encodings.specs.declared.answer.Taken.{Taken}
+use Rattle.encodings.proofs.Texts.{read-most, ills-most}
+use Rattle.mending.specs.Mending.{mendedIn}
+use Rattle.mending.specs.Inner.{GoesIn, PassesIn, Copies, ReadyIn, MovedIn, FitsIn, PlacedIn, CountReadyIn, CountMovedIn, CountFitsIn, CountPlacedIn}
 use Rattle.mending.specs.declared.text.At.{At}
 use Rattle.mending.specs.declared.length.Count.{Count}
-use Rattle.mending.proofs.Characters.{Character}
+use Rattle.mending.specs.Characters.{characterIn}
+use Rattle.mending.proofs.Characters.{Character, character-next}
 
 -- ---- copying
 
--- the bytes from `at` to `read` are written from k₀ on
+-- the units from `at` to `read` are written from k₀ on
 pub record Copying (text : List ℕ) (at read : ℕ) (out₀ : List ℕ) (k₀ : ℕ) (out : List ℕ) (k : ℕ) : Type 0 where
   pub done : List ℕ
   pub stands : drop at text ≡ done ++ drop read text
@@ -66,150 +68,167 @@ module _ (text : List ℕ) {at : ℕ} {out₀ : List ℕ} {k₀ : ℕ} where
         let e : to ≡ read = omega arith in
         rw e copied
 
--- ---- a part that passes
+module _ {f : Form} where
+  -- ---- a part that passes: nothing, and one part after the other
 
-pub passes-length : (text : List ℕ) {at to : ℕ} (p : Passes text at to) → at + length (p .same) ≡ to
-passes-length text {at} {to} p =
-    omega (
-      arith,
-      simp length-append at (ap length (p .stands)),
-      length-drop at text,
-      length-drop to text,
-      p .goes .on,
-      p .goes .inside,
-    )
+  pub passes-none : (text : List ℕ) (at : ℕ) → at ≤ length text → PassesIn f text at at
+  passes-none text at h =
+      record { same = []; stands = refl; goes = record { mends = refl; ills = omega arith; on = omega arith; inside = h } }
 
-goes-length : {text : List ℕ} {at to : ℕ} {xs : List ℕ} {n : ℕ} → Goes text at to xs n
-    → length (mended (drop at text)) ≡ length xs + length (mended (drop to text))
-goes-length g = simp length-append at (ap length (g .mends))
-
--- ---- a turn that writes
-
-pub wrote-placed : {out : List ℕ} {s : At} {t : Taken} {k : ℕ} {out′ : List ℕ} → Wrote out (s .written) (bytesOf (t .code)) k out′
-    → Placed out s t (record { read = s .read + t .size; written = k; ills = s .ills + t .ill }) out′
-wrote-placed w = record { wrote = w; read = refl; ills = refl }
-
-pub fits-placed : {out : List ℕ} {s : At} {t : Taken} → Fits out s t → {k : ℕ} {out′ : List ℕ}
-    → Wrote out (s .written) (fitting (t .code) out (s .written)) k out′
-    → Placed out s t (record { read = s .read + t .size; written = k; ills = s .ills + t .ill }) out′
-fits-placed {out} {s} {t} f w =
-    wrote-placed (rw (fitting-all (t .code) out (s .written) (f .code) (f .room .fits)) at w)
-
-module _ {text out : List ℕ} {s : At} where
-  pub character-fits : Ready text out s → {t : Taken} → Character text (s .read) t → Fits out s t
-  character-fits h {t} c = record {
-    room = record { fits = omega (arith, h .room, goes-length (c .goes)) };
-    code = good-most (t .code) (c .is-good);
-    size = omega (arith, c .goes .inside, h .limit);
-    ill = omega (arith, h .ills, h .limit, c .goes .ills, ills-most text, read-most text);
+  pub passes-on : {text : List ℕ} {a b c : ℕ} → PassesIn f text a b → PassesIn f text b c → PassesIn f text a c
+  passes-on p q = record {
+    same = p .same ++ q .same;
+    stands = p .stands ∙ rw (q .stands, append-assoc);
+    goes = record {
+      mends = p .goes .mends ∙ rw (q .goes .mends, append-assoc);
+      ills = omega (arith, p .goes .ills, q .goes .ills);
+      on = omega (arith, p .goes .on, q .goes .on);
+      inside = q .goes .inside;
+    };
   }
 
-  pub character-moved : {t : Taken} → Character text (s .read) t → {r : At} {out′ : List ℕ} → Placed out s t r out′ → Moved text out s r out′
-  character-moved {t} c p = record {
-    xs = bytesOf (t .code);
-    n = t .ill;
-    goes = rw (p .read) (c .goes);
-    more = omega (arith, p .read, c .more);
-    wrote = p .wrote;
-    ills = p .ills;
-  }
+  -- a well-formed sequence that is a character
+  pub passes-full : (enc : Encodes f) (text : List ℕ) (at : ℕ) (u : List ℕ) → drop at text ≡ u ++ drop (at + length u) text → f .encoding .kind u ≡ full
+      → at < length text → goodOf (f .encoding .code u) (length u) ≡ characterIn f (piecesIn f (drop at text)) → PassesIn f text at (at + length u)
+  passes-full enc text at u stands whole h e =
+      record { same = u; stands = stands; goes = rw (enc .full-units u whole) at (character-next enc text at h e .goes) }
 
-  pub passes-room : Ready text out s → {to : ℕ} → Passes text (s .read) to → s .written + (to - s .read) ≤ length out
-  passes-room h p = omega (arith, h .room, goes-length (p .goes), passes-length text p)
+  pub passes-length : (text : List ℕ) {at to : ℕ} (p : PassesIn f text at to) → at + length (p .same) ≡ to
+  passes-length text {at} {to} p =
+      omega (
+        arith,
+        simp length-append at (ap length (p .stands)),
+        length-drop at text,
+        length-drop to text,
+        p .goes .on,
+        p .goes .inside,
+      )
 
-  pub passes-moved : {to : ℕ} → Passes text (s .read) to → (to ≡ s .read → ⊥) → {k : ℕ} {out′ : List ℕ}
-      → Copies text (s .read) to out (s .written) k out′ → Moved text out s (record { read = to; written = k; ills = s .ills }) out′
-  passes-moved {to} p n w = record {
-    xs = p .same;
-    n = 0;
-    goes = p .goes;
-    more = omega (arith, p .goes .on, n);
-    wrote = w .wrote (p .same) (p .stands);
-    ills = omega arith;
-  }
+  goes-length : {text : List ℕ} {at to : ℕ} {xs : List ℕ} {n : ℕ} → GoesIn f text at to xs n
+      → length (mendedIn f (drop at text)) ≡ length xs + length (mendedIn f (drop to text))
+  goes-length g = simp length-append at (ap length (g .mends))
 
--- ---- a turn that counts
+  -- ---- a turn that writes
 
-module _ {text : List ℕ} {s : Count} where
-  pub count-fits : CountReady text s → {t : Taken} → Character text (s .read) t → CountFits s t
-  count-fits h {t} c = record {
-    size = omega (arith, c .goes .inside, h .limit);
-    fits = omega (arith, h .fits, goes-length (c .goes));
-  }
+  pub wrote-placed : {out : List ℕ} {s : At} {t : Taken} {k : ℕ} {out′ : List ℕ} → Wrote out (s .written) (f .units (t .code)) k out′
+      → PlacedIn f out s t (record { read = s .read + t .size; written = k; ills = s .ills + t .ill }) out′
+  wrote-placed w = record { wrote = w; read = refl; ills = refl }
 
-  pub count-character : {t : Taken} → Character text (s .read) t → {r : Count} → CountPlaced s t r → CountMoved text s r
-  count-character {t} c p =
-      record { xs = bytesOf (t .code); n = t .ill; goes = rw (p .read) (c .goes); more = omega (arith, p .read, c .more); counts = p .counts }
+  module _ {text out : List ℕ} {s : At} where
+    pub character-fits : Encodes f → ReadyIn f text out s → {t : Taken} → Character f text (s .read) t → FitsIn f out s t
+    character-fits enc h {t} c = record {
+      room = record { fits = omega (arith, h .room, goes-length (c .goes)) };
+      code = good-most (t .code) (c .is-good);
+      size = omega (arith, c .goes .inside, h .limit);
+      ill = omega (arith, h .ills, h .limit, c .goes .ills, ills-most enc text, read-most enc text);
+    }
 
-  pub passes-count : CountReady text s → {to : ℕ} → Passes text (s .read) to → s .length + (to - s .read) ≤ 49152
-  passes-count h p = omega (arith, h .fits, goes-length (p .goes), passes-length text p)
+    pub character-moved : {t : Taken} → Character f text (s .read) t → {r : At} {out′ : List ℕ} → PlacedIn f out s t r out′ → MovedIn f text out s r out′
+    character-moved {t} c p = record {
+      xs = f .units (t .code);
+      n = t .ill;
+      goes = rw (p .read) (c .goes);
+      more = omega (arith, p .read, c .more);
+      wrote = p .wrote;
+      ills = p .ills;
+    }
 
-  pub count-passes : {to : ℕ} → Passes text (s .read) to → (to ≡ s .read → ⊥)
-      → CountMoved text s (record { read = to; length = s .length + (to - s .read) })
-  count-passes {to} p n = record {
-    xs = p .same;
-    n = 0;
-    goes = p .goes;
-    more = omega (arith, p .goes .on, n);
-    counts = omega (arith, passes-length text p);
-  }
+    pub passes-room : ReadyIn f text out s → {to : ℕ} → PassesIn f text (s .read) to → s .written + (to - s .read) ≤ length out
+    passes-room h p = omega (arith, h .room, goes-length (p .goes), passes-length text p)
+
+    pub passes-moved : {to : ℕ} → PassesIn f text (s .read) to → (to ≡ s .read → ⊥) → {k : ℕ} {out′ : List ℕ}
+        → Copies text (s .read) to out (s .written) k out′ → MovedIn f text out s (record { read = to; written = k; ills = s .ills }) out′
+    passes-moved {to} p n w = record {
+      xs = p .same;
+      n = 0;
+      goes = p .goes;
+      more = omega (arith, p .goes .on, n);
+      wrote = w .wrote (p .same) (p .stands);
+      ills = omega arith;
+    }
+
+  -- ---- a turn that counts
+
+  module _ {text : List ℕ} {s : Count} where
+    pub count-fits : CountReadyIn f text s → {t : Taken} → Character f text (s .read) t → CountFitsIn f s t
+    count-fits h {t} c = record {
+      size = omega (arith, c .goes .inside, h .limit);
+      fits = omega (arith, h .fits, goes-length (c .goes));
+    }
+
+    pub count-character : {t : Taken} → Character f text (s .read) t → {r : Count} → CountPlacedIn f s t r → CountMovedIn f text s r
+    count-character {t} c p =
+        record { xs = f .units (t .code); n = t .ill; goes = rw (p .read) (c .goes); more = omega (arith, p .read, c .more); counts = p .counts }
+
+    pub passes-count : CountReadyIn f text s → {to : ℕ} → PassesIn f text (s .read) to → s .length + (to - s .read) ≤ 49152
+    passes-count h p = omega (arith, h .fits, goes-length (p .goes), passes-length text p)
+
+    pub count-passes : {to : ℕ} → PassesIn f text (s .read) to → (to ≡ s .read → ⊥)
+        → CountMovedIn f text s (record { read = to; length = s .length + (to - s .read) })
+    count-passes {to} p n = record {
+      xs = p .same;
+      n = 0;
+      goes = p .goes;
+      more = omega (arith, p .goes .on, n);
+      counts = omega (arith, passes-length text p);
+    }
 
 -- ---- the loops
 
-pub mended-end : (text : List ℕ) (at : ℕ) → length text ≤ at → mended (drop at text) ≡ []
-unfolding mended
-mended-end text at h = rw (drop-of-length-le text h) (each-nil bytesOf)
+pub mended-end : (f : Form) (text : List ℕ) (at : ℕ) → length text ≤ at → mendedIn f (drop at text) ≡ []
+unfolding mendedIn
+mended-end f text at h = rw (drop-of-length-le text h) (each-nil (f .units))
 
 -- what the loop that writes keeps
-pub record Writing (text out₀ out : List ℕ) (s : At) : Type 0 where
+pub record Writing (f : Form) (text out₀ out : List ℕ) (s : At) : Type 0 where
   pub inside : s .read ≤ length text
-  pub filling : Filling (mended text) (mended (drop (s .read) text)) out₀ out (s .written)
-  pub ills : s .ills + illText (drop (s .read) text) ≡ illText text
+  pub filling : Filling (mendedIn f text) (mendedIn f (drop (s .read) text)) out₀ out (s .written)
+  pub ills : s .ills + illIn f (drop (s .read) text) ≡ illIn f text
 
-module _ (text : List ℕ) {out₀ : List ℕ} where
-  pub writing-none : Writing text out₀ out₀ (record { read = 0; written = 0; ills = 0 })
-  writing-none = record { inside = omega arith; filling = filling-none (mended text) out₀; ills = omega arith }
+module _ {f : Form} (text : List ℕ) {out₀ : List ℕ} where
+  pub writing-none : Writing f text out₀ out₀ (record { read = 0; written = 0; ills = 0 })
+  writing-none = record { inside = omega arith; filling = filling-none (mendedIn f text) out₀; ills = omega arith }
 
-  module _ {out : List ℕ} {s : At} (w : Writing text out₀ out s) where
-    pub writing-ready : length text ≤ 16384 → length (mended text) ≤ length out₀ → s .read < length text → Ready text out s
-    writing-ready l f h = record {
+  module _ {out : List ℕ} {s : At} (w : Writing f text out₀ out s) where
+    pub writing-ready : length text ≤ 16384 → length (mendedIn f text) ≤ length out₀ → s .read < length text → ReadyIn f text out s
+    writing-ready l fit h = record {
       inside = h;
-      room = omega (arith, filling-count (w .filling), filling-length f (w .filling));
+      room = omega (arith, filling-count (w .filling), filling-length fit (w .filling));
       ills = w .ills;
       limit = l;
     }
 
-    pub writing-more : length (mended text) ≤ length out₀ → {r : At} {out′ : List ℕ} → Moved text out s r out′ → Writing text out₀ out′ r
-    writing-more f m = record {
+    pub writing-more : length (mendedIn f text) ≤ length out₀ → {r : At} {out′ : List ℕ} → MovedIn f text out s r out′ → Writing f text out₀ out′ r
+    writing-more fit m = record {
       inside = m .goes .inside;
-      filling = filling-more f (w .filling) (record { eq = m .goes .mends }) (m .wrote);
+      filling = filling-more fit (w .filling) (record { eq = m .goes .mends }) (m .wrote);
       ills = omega (arith, w .ills, m .ills, m .goes .ills);
     }
 
-    pub writing-all : length text ≤ s .read → ReadFronts mended text out₀ (record { length = s .written; ills = s .ills }) out
+    pub writing-all : length text ≤ s .read → ReadFrontsIn f (mendedIn f) text out₀ (record { length = s .written; ills = s .ills }) out
     writing-all h = record {
-      fronts = filling-all (w .filling) (mended-end text (s .read) h);
+      fronts = filling-all (w .filling) (mended-end f text (s .read) h);
       ills = omega (arith, rw (drop-of-length-le text h) at (w .ills));
     }
 
 -- and the one that counts
-pub record Tallying (text : List ℕ) (s : Count) : Type 0 where
+pub record Tallying (f : Form) (text : List ℕ) (s : Count) : Type 0 where
   pub inside : s .read ≤ length text
-  pub counting : Counting (mended text) (mended (drop (s .read) text)) (s .length)
+  pub counting : Counting (mendedIn f text) (mendedIn f (drop (s .read) text)) (s .length)
 
-module _ (text : List ℕ) where
-  pub tallying-none : Tallying text (record { read = 0; length = 0 })
-  tallying-none = record { inside = omega arith; counting = counting-none (mended text) }
+module _ {f : Form} (text : List ℕ) where
+  pub tallying-none : Tallying f text (record { read = 0; length = 0 })
+  tallying-none = record { inside = omega arith; counting = counting-none (mendedIn f text) }
 
-  module _ {s : Count} (w : Tallying text s) where
-    pub tallying-ready : length text ≤ 16384 → length (mended text) ≤ 3 * length text → s .read < length text → CountReady text s
-    tallying-ready l f h = record { inside = h; fits = omega (arith, w .counting .sum); limit = l }
+  module _ {s : Count} (w : Tallying f text s) where
+    pub tallying-ready : length text ≤ 16384 → length (mendedIn f text) ≤ 3 * length text → s .read < length text → CountReadyIn f text s
+    tallying-ready l most h = record { inside = h; fits = omega (arith, w .counting .sum); limit = l }
 
-    pub tallying-more : {r : Count} → CountMoved text s r → Tallying text r
+    pub tallying-more : {r : Count} → CountMovedIn f text s r → Tallying f text r
     tallying-more m = record {
       inside = m .goes .inside;
       counting = rw (m .counts) (counting-more {xs = m .xs} (w .counting) (record { eq = m .goes .mends }) refl);
     }
 
-    pub tallying-all : length text ≤ s .read → s .length ≡ length (mended text)
-    tallying-all h = counting-all (w .counting) (mended-end text (s .read) h)
+    pub tallying-all : length text ≤ s .read → s .length ≡ length (mendedIn f text)
+    tallying-all h = counting-all (w .counting) (mended-end f text (s .read) h)

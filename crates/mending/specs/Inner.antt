@@ -1,47 +1,133 @@
 -- What the functions that mending is made of ask and promise: how far they come in a text, what
--- they read there, and what they leave in the buffer.
+-- they read there, and what they leave in the buffer. Over any encoding form, and in short names at
+-- UTF-8.
 --
--- In order: a part of a text (`Goes`), one that stands as it is in the mended text (`Passes`), and
--- its copy (`Copies`); three bytes that pass (`Three`, the first two of them `Lead`), eight (`Low`,
--- `wordOf`); a letter by its bytes (`tailOf`, `Tail`, `OfTail`, `lastOf`); a code point that takes
--- three bytes (`Triple`); one turn of the loop that writes (`Ready`, `Moved`, and for a character
--- `Fits`, `Placed`) and of the one that counts (`CountReady`, `CountMoved`, `CountFits`,
--- `CountPlaced`).
+-- In order: a part of a text (`GoesIn`), one that stands as it is in the mended text (`PassesIn`),
+-- and its copy (`Copies`); one turn of the loop that writes (`ReadyIn`, `MovedIn`, and for a
+-- character `FitsIn`, `PlacedIn`) and of the one that counts (`CountReadyIn`, `CountMovedIn`,
+-- `CountFitsIn`, `CountPlacedIn`); their short names. Then what is UTF-8's own: three bytes that
+-- pass (`Three`, the first two of them `Lead`), eight (`Low`, `wordOf`); a letter by its bytes
+-- (`tailOf`, `Tail`, `OfTail`, `lastOf`); a code point that takes three bytes (`Triple`).
 use mathlib.Core.Path.{_≡_}
 use mathlib.Core.Bool.{cond}
-use mathlib.Core.List.{List, [], _∷_, _++_}
+use mathlib.Core.List.{List, _++_}
 use Prim.Native.Nat.{ℕ, _+_, _-_, _*_, _/_, _%_, _≤_, _<_}
-use lib.ListN.{length, getD, drop}
+use lib.ListN.{length, drop}
 use Rattle.laws.specs.Ranges.{within}
-use Rattle.laws.specs.Pieces.{pieces}
 use Rattle.laws.specs.Writing.{Room, Wrote}
+use Rattle.encodings.specs.Pieces.{pieces}
+use Rattle.encodings.specs.Forms.{Form, illIn}
+use Rattle.encodings.specs.Reading.{goodOf}
+use Rattle.encodings.specs.declared.answer.Taken.{Taken}
 use Rattle.utf8.specs.Table37.{kindOf}
-use Rattle.utf8.specs.Utf8.{bytesOf, illText}
-use Rattle.utf8.specs.Reading.{goodOf, takenFrom}
-use Rattle.utf8.specs.declared.decode.Taken.{Taken}
-use Rattle.mending.specs.Mending.{mended}
+use Rattle.utf8.specs.Utf8.{form8}
+use Rattle.utf8.specs.Reading.{takenFrom}
+use Rattle.mending.specs.Mending.{mendedIn}
 use Rattle.mending.specs.declared.text.At.{At}
 use Rattle.mending.specs.declared.length.Count.{Count}
 
 -- ---- a part of a text
 
--- the mended text from one index on is xs and then the mended text from the other on, with n
--- ill-formed subparts between the two
-pub record Goes (text : List ℕ) (at to : ℕ) (xs : List ℕ) (n : ℕ) : Type 0 where
-  pub mends : mended (drop at text) ≡ xs ++ mended (drop to text)
-  pub ills : illText (drop at text) ≡ n + illText (drop to text)
-  pub on : at ≤ to
-  pub inside : to ≤ length text
-
--- and xs are the bytes between them as they stand
-pub record Passes (text : List ℕ) (at to : ℕ) : Type 0 where
-  pub same : List ℕ
-  pub stands : drop at text ≡ same ++ drop to text
-  pub goes : Goes text at to same 0
-
--- the bytes between two indices are written
+-- the units between two indices are written
 pub record Copies (text : List ℕ) (at to : ℕ) (out : List ℕ) (k r : ℕ) (out′ : List ℕ) : Type 0 where
   pub wrote : (xs : List ℕ) → drop at text ≡ xs ++ drop to text → Wrote out k xs r out′
+
+module _ (f : Form) where
+  -- the mended text from one index on is xs and then the mended text from the other on, with n
+  -- ill-formed subparts between the two
+  pub record GoesIn (text : List ℕ) (at to : ℕ) (xs : List ℕ) (n : ℕ) : Type 0 where
+    pub mends : mendedIn f (drop at text) ≡ xs ++ mendedIn f (drop to text)
+    pub ills : illIn f (drop at text) ≡ n + illIn f (drop to text)
+    pub on : at ≤ to
+    pub inside : to ≤ length text
+
+  -- and xs are the units between them as they stand
+  pub record PassesIn (text : List ℕ) (at to : ℕ) : Type 0 where
+    pub same : List ℕ
+    pub stands : drop at text ≡ same ++ drop to text
+    pub goes : GoesIn text at to same 0
+
+  -- ---- one turn
+
+  -- there is more to read, what is left to be written has room, and the ill-formed subparts counted
+  -- and left are all
+  pub record ReadyIn (text out : List ℕ) (s : At) : Type 0 where
+    pub inside : s .read < length text
+    pub room : s .written + length (mendedIn f (drop (s .read) text)) ≤ length out
+    pub ills : s .ills + illIn f (drop (s .read) text) ≡ illIn f text
+    pub limit : length text ≤ 16384
+
+  -- some more was read, and what mending makes of it was written
+  pub record MovedIn (text out : List ℕ) (s r : At) (out′ : List ℕ) : Type 0 where
+    pub xs : List ℕ
+    pub n : ℕ
+    pub goes : GoesIn text (s .read) (r .read) xs n
+    pub more : s .read < r .read
+    pub wrote : Wrote out (s .written) xs (r .written) out′
+    pub ills : r .ills ≡ s .ills + n
+
+  -- a character has room, and was written
+  pub record FitsIn (out : List ℕ) (s : At) (t : Taken) : Type 0 where
+    pub room : Room out (s .written) (f .units (t .code))
+    pub code : t .code ≤ 0x10FFFF
+    pub size : s .read + t .size ≤ 16384
+    pub ill : s .ills + t .ill ≤ 16384
+
+  pub record PlacedIn (out : List ℕ) (s : At) (t : Taken) (r : At) (out′ : List ℕ) : Type 0 where
+    pub wrote : Wrote out (s .written) (f .units (t .code)) (r .written) out′
+    pub read : r .read ≡ s .read + t .size
+    pub ills : r .ills ≡ s .ills + t .ill
+
+  -- ---- the same with no buffer
+
+  pub record CountReadyIn (text : List ℕ) (s : Count) : Type 0 where
+    pub inside : s .read < length text
+    pub fits : s .length + length (mendedIn f (drop (s .read) text)) ≤ 49152
+    pub limit : length text ≤ 16384
+
+  pub record CountMovedIn (text : List ℕ) (s r : Count) : Type 0 where
+    pub xs : List ℕ
+    pub n : ℕ
+    pub goes : GoesIn text (s .read) (r .read) xs n
+    pub more : s .read < r .read
+    pub counts : r .length ≡ s .length + length xs
+
+  pub record CountFitsIn (s : Count) (t : Taken) : Type 0 where
+    pub size : s .read + t .size ≤ 16384
+    pub fits : s .length + length (f .units (t .code)) ≤ 49152
+
+  pub record CountPlacedIn (s : Count) (t : Taken) (r : Count) : Type 0 where
+    pub read : r .read ≡ s .read + t .size
+    pub counts : r .length ≡ s .length + length (f .units (t .code))
+
+-- ---- at UTF-8
+
+abbrev pub Passes : List ℕ → ℕ → ℕ → Type 0
+Passes = PassesIn form8
+
+abbrev pub Ready : List ℕ → List ℕ → At → Type 0
+Ready = ReadyIn form8
+
+abbrev pub Moved : List ℕ → List ℕ → At → At → List ℕ → Type 0
+Moved = MovedIn form8
+
+abbrev pub Fits : List ℕ → At → Taken → Type 0
+Fits = FitsIn form8
+
+abbrev pub Placed : List ℕ → At → Taken → At → List ℕ → Type 0
+Placed = PlacedIn form8
+
+abbrev pub CountReady : List ℕ → Count → Type 0
+CountReady = CountReadyIn form8
+
+abbrev pub CountMoved : List ℕ → Count → Count → Type 0
+CountMoved = CountMovedIn form8
+
+abbrev pub CountFits : Count → Taken → Type 0
+CountFits = CountFitsIn form8
+
+abbrev pub CountPlaced : Count → Taken → Count → Type 0
+CountPlaced = CountPlacedIn form8
 
 -- ---- bytes that pass
 
@@ -107,56 +193,3 @@ lastOf c = cond (within 0x11A8 0x11C2 c) (c - 0x11A7) 0
 pub record Triple (c : ℕ) : Type 0 where
   pub least : 0x800 ≤ c
   pub most : c < 0x10000
-
--- ---- one turn
-
--- there is more to read, what is left to be written has room, and the ill-formed subparts counted
--- and left are all
-pub record Ready (text out : List ℕ) (s : At) : Type 0 where
-  pub inside : s .read < length text
-  pub room : s .written + length (mended (drop (s .read) text)) ≤ length out
-  pub ills : s .ills + illText (drop (s .read) text) ≡ illText text
-  pub limit : length text ≤ 16384
-
--- some more was read, and what mending makes of it was written
-pub record Moved (text out : List ℕ) (s r : At) (out′ : List ℕ) : Type 0 where
-  pub xs : List ℕ
-  pub n : ℕ
-  pub goes : Goes text (s .read) (r .read) xs n
-  pub more : s .read < r .read
-  pub wrote : Wrote out (s .written) xs (r .written) out′
-  pub ills : r .ills ≡ s .ills + n
-
--- a character has room, and was written
-pub record Fits (out : List ℕ) (s : At) (t : Taken) : Type 0 where
-  pub room : Room out (s .written) (bytesOf (t .code))
-  pub code : t .code ≤ 0x10FFFF
-  pub size : s .read + t .size ≤ 16384
-  pub ill : s .ills + t .ill ≤ 16384
-
-pub record Placed (out : List ℕ) (s : At) (t : Taken) (r : At) (out′ : List ℕ) : Type 0 where
-  pub wrote : Wrote out (s .written) (bytesOf (t .code)) (r .written) out′
-  pub read : r .read ≡ s .read + t .size
-  pub ills : r .ills ≡ s .ills + t .ill
-
--- ---- the same with no buffer
-
-pub record CountReady (text : List ℕ) (s : Count) : Type 0 where
-  pub inside : s .read < length text
-  pub fits : s .length + length (mended (drop (s .read) text)) ≤ 49152
-  pub limit : length text ≤ 16384
-
-pub record CountMoved (text : List ℕ) (s r : Count) : Type 0 where
-  pub xs : List ℕ
-  pub n : ℕ
-  pub goes : Goes text (s .read) (r .read) xs n
-  pub more : s .read < r .read
-  pub counts : r .length ≡ s .length + length xs
-
-pub record CountFits (s : Count) (t : Taken) : Type 0 where
-  pub size : s .read + t .size ≤ 16384
-  pub fits : s .length + length (bytesOf (t .code)) ≤ 49152
-
-pub record CountPlaced (s : Count) (t : Taken) (r : Count) : Type 0 where
-  pub read : r .read ≡ s .read + t .size
-  pub counts : r .length ≡ s .length + length (bytesOf (t .code))

@@ -1,11 +1,11 @@
 // The character at an index of a text of bytes: a code point, with those after it that join to it.
 // This is the general way. Each fast path answers what it would answer.
+use encodings::Taken;
 use joining::Role;
-use utf8::Taken;
 ghost use mathlib.Core.Path.{_≡_};
-ghost use Prim.Native.Nat.{_+_, _≤_, _<_};
+ghost use Prim.Native.Nat.{_+_, _≤_};
 ghost use lib.ListN.{length, drop};
-ghost use Rattle.laws.specs.Pieces.{pieces};
+ghost use Rattle.encodings.specs.Pieces.{pieces};
 ghost use Rattle.joining.specs.Roles.{roleOf};
 ghost use Rattle.utf8.specs.Table37.{kindOf};
 ghost use Rattle.mending.specs.Characters.{grownOnce, characterFrom, roleGoesOn};

@@ -1,11 +1,11 @@
 // The character at an index by the shortest way: ASCII, a syllable spelled in letters, or a
 // finished syllable to which nothing joins; else by the general way.
-use utf8::Taken;
+use encodings::Taken;
 ghost use mathlib.Core.Path.{_≡_};
 ghost use mathlib.Core.List.{[], _∷_};
 ghost use Prim.Native.Nat.{_≤_};
 ghost use lib.ListN.{length, drop};
-ghost use Rattle.laws.specs.Pieces.{pieces};
+ghost use Rattle.encodings.specs.Pieces.{pieces};
 ghost use Rattle.utf8.specs.Table37.{kindOf};
 ghost use Rattle.utf8.specs.Utf8.{valueOf};
 ghost use Rattle.mending.specs.Characters.{characterFrom};

@@ -1,5 +1,5 @@
 // How long the mended text is, counted in one pass with no buffer.
-use utf8::Taken;
+use encodings::Taken;
 ghost use mathlib.Core.Path.{_≡_};
 ghost use Prim.Native.Nat.{_≤_};
 ghost use lib.ListN.{length};

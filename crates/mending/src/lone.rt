@@ -1,11 +1,12 @@
 // Fast paths for what joins to nothing: an ill-formed subpart, and a letter with no letter after it
 // that joins to it. Both are found by their bytes.
-use utf8::Taken;
+use encodings::Taken;
 ghost use mathlib.Core.Path.{_≡_};
 ghost use lib.ListN.{length, drop};
-ghost use Rattle.laws.specs.Pieces.{pieces};
+ghost use Rattle.encodings.specs.Pieces.{pieces};
 ghost use Rattle.utf8.specs.Table37.{kindOf};
-ghost use Rattle.utf8.specs.Reading.{illOf, takenFrom};
+ghost use Rattle.encodings.specs.Reading.{illOf};
+ghost use Rattle.utf8.specs.Reading.{takenFrom};
 ghost use Rattle.mending.specs.Characters.{characterFrom};
 ghost use Prim.Native.Nat.{_≤_, _<_};
 ghost use Rattle.laws.specs.Ranges.{within};

@@ -1,11 +1,12 @@
 // Fast path for a syllable that is spelled in letters of the block 1100–11FF. It is found by its
 // bytes.
-use utf8::Taken;
+use encodings::Taken;
 ghost use mathlib.Core.Path.{_≡_};
-ghost use Rattle.utf8.specs.Reading.{goodOf, takenFrom};
+ghost use Rattle.encodings.specs.Reading.{goodOf};
+ghost use Rattle.utf8.specs.Reading.{takenFrom};
 ghost use Rattle.mending.specs.Inner.{Tail, lastOf, Triple};
 ghost use lib.ListN.{drop};
-ghost use Rattle.laws.specs.Pieces.{pieces};
+ghost use Rattle.encodings.specs.Pieces.{pieces};
 ghost use Rattle.utf8.specs.Table37.{kindOf};
 ghost use Rattle.mending.specs.Characters.{characterFrom};
 

@@ -1,9 +1,9 @@
 // Mending a text of bytes into a lent buffer, in one pass (document 01, 'Bytes').
 use answers::Checked;
 use answers::Refusal;
-use utf8::Counted;
-use utf8::Read;
-use utf8::Taken;
+use encodings::Counted;
+use encodings::Read;
+use encodings::Taken;
 ghost use mathlib.Core.Path.{_≡_};
 ghost use Prim.Native.Nat.{_+_, _-_, _≤_, _<_};
 ghost use lib.ListN.{length};

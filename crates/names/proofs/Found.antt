@@ -30,7 +30,7 @@ use Rattle.answers.specs.declared.answer.Filled.{Filled}
 use Rattle.answers.specs.declared.answer.Filled.the-variants.{Done}
 use Rattle.answers.proofs.Answers.{filled-injective, refusedBy-injective}
 use Rattle.answers.proofs.Orders.{passes-refuses}
-use Rattle.answers.proofs.Checks.{bytes-taken}
+use Rattle.answers.proofs.Checks.{units-taken}
 use Rattle.answers.proofs.Verdicts.{done-not-refused, fills-done, fills-front, fills-unique, filled-whole}
 use Rattle.letters.specs.Syllables.{isSyllable, initialOf, peakOf, finalOf}
 use Rattle.letters.proofs.Steps.{syllable, syllable-yes, syllable-least, syllable-most, syllable-made, initial-below, peak-below, final-below, initial-determined, peak-determined, final-determined}
@@ -198,7 +198,7 @@ names-whole s h room = record { fills = filled-whole (no-syllable-passes s h) ro
 
 -- THE NAME OF A SYLLABLE IS READ AS THE SYLLABLE
 pub name-reads : (s : ℕ) → isSyllable s ≡ true → ReadsName (nameOf s) (Syllable s)
-name-reads s is = reads-some (bytes-taken (nameOf s) (omega (arith, syllable-name-most s))) (named-some s is)
+name-reads s is = reads-some (units-taken (nameOf s) (omega (arith, syllable-name-most s))) (named-some s is)
 
 pub read-named : {s k : ℕ} {out out′ : List ℕ} {r : Named} → Names s out (Done k) out′ → ReadsName (take k out′) r → r ≡ Syllable s
 read-named {s} f g =

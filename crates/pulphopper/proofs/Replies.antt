@@ -10,10 +10,12 @@ use Rattle.answers.specs.Answers.{filled}
 use Rattle.answers.specs.declared.answer.Filled.{Filled}
 use Rattle.answers.specs.declared.answer.Filled.the-variants.{Done as FilledDone, Refused as FilledRefused}
 use Rattle.answers.specs.declared.refusal.Refusal.{Refusal}
-use Rattle.utf8.specs.Reading.{readAs, Reads}
-use Rattle.utf8.specs.declared.text.Counted.{Counted}
-use Rattle.utf8.specs.declared.text.Read.{Read}
-use Rattle.utf8.specs.declared.text.Read.the-variants.{Done, Refused}
+use Rattle.encodings.specs.Reading.{readAs}
+use Rattle.encodings.specs.declared.answer.Counted.{Counted}
+use Rattle.encodings.specs.declared.answer.Read.{Read}
+use Rattle.encodings.specs.declared.answer.Read.the-variants.{Done, Refused}
+use Rattle.utf8.specs.Reading.{Reads}
+use Rattle.utf8.proofs.Round.{encodes8}
 use Rattle.mending.specs.Mending.{mended}
 use Rattle.mending.proofs.Damage.{done-few}
 use Rattle.names.specs.Naming.{Names, namedAs, ReadsName}
@@ -37,7 +39,7 @@ module _ (text out : List ℕ) where
     mends-done e = by-answer (sym (ap (λ (x : Read). countedAnswer (readAs x)) e))
 
     pub mends-few : {c : Counted} → a ≡ Done c → c .ills ≤ 16384
-    mends-few e = done-few (rw e at h)
+    mends-few e = done-few (rw e at h) encodes8
 
     pub mends-refused : {f : Refusal} → a ≡ Refused f → {r : Answer} → r ≡ refusedAnswer f → Mends text out r out′
     mends-refused e q = by-answer (q ∙ sym (ap (λ (x : Read). countedAnswer (readAs x)) e))

@@ -6,8 +6,8 @@ use Prim.Native.Nat.{ℕ}
 use lib.ListN.{length}
 use Rattle.answers.specs.Checks.{inOrder, takesBytes}
 use Rattle.answers.specs.Verdicts.{Verdict, done, refused, verdict, after, fits}
+use Rattle.encodings.specs.declared.answer.Counted.{Counted}
 use Rattle.utf8.specs.Reading.{countedOf}
-use Rattle.utf8.specs.declared.text.Counted.{Counted}
 use Rattle.mending.specs.Mending.{mended}
 use Rattle.names.specs.Names.{nameOf, named}
 use Rattle.names.specs.Naming.{noSyllable, noName, syllableOr}

@@ -1,9 +1,9 @@
 // The calls for C: each calls one function of a crate below and puts its answer into three numbers.
 use crate::answer::Answer;
 use answers::Filled;
+use encodings::Read;
 use names::Named;
 use ranking::Ranked;
-use utf8::Read;
 ghost use mathlib.Core.Path.{_≡_};
 ghost use Rattle.pulphopper.specs.Replies.{Mends, NamesForC, ReadsNameForC, RanksForC};
 

@@ -17,13 +17,14 @@ use Rattle.answers.specs.declared.answer.Checked.{Checked}
 use Rattle.answers.specs.declared.answer.Checked.the-variants.{Passed, Refused as CheckRefused}
 use Rattle.answers.proofs.Answers.{refusedBy-injective}
 use Rattle.answers.proofs.Orders.{order-first, order-rest, order-one}
-use Rattle.answers.proofs.Checks.{over-limit-refuses, over-limit-passes, over-limit-kept, bad-code-point-refuses, bad-code-point-passes, bytes-taken, bytes-short}
+use Rattle.answers.proofs.Checks.{over-limit-refuses, over-limit-passes, over-limit-kept, bad-code-point-refuses, bad-code-point-passes, units-taken, units-short}
 use Rattle.answers.proofs.Verdicts.{fills-done, fills-front}
+use Rattle.encodings.specs.declared.answer.Counted.{Counted}
+use Rattle.encodings.specs.declared.answer.Read.the-variants.{Done}
+use Rattle.encodings.proofs.Texts.{read-taken}
 use Rattle.utf8.specs.Utf8.{readText}
 use Rattle.utf8.specs.Reading.{Reads}
-use Rattle.utf8.specs.declared.text.Counted.{Counted}
-use Rattle.utf8.specs.declared.text.Read.the-variants.{Done}
-use Rattle.utf8.proofs.Reading.{read-taken}
+use Rattle.utf8.proofs.Round.{encodes8}
 use Rattle.mending.specs.Mending.{mended, filledFront}
 use Rattle.mending.proofs.Damage.{done-filled}
 use Rattle.ranking.specs.Ranking.{rank, rankBytes, takesTwo, takesTwoBytes, ranked, Ranks, RanksBytes}
@@ -101,7 +102,7 @@ pub two-bytes-short : (first second : List ℕ) → takesTwoBytes first second �
 unfolding takesTwoBytes
 two-bytes-short first second e =
     let p = both-pass (takesBytes first) (takesBytes second) [] e in
-    (bytes-short first (p .0), bytes-short second (p .1))
+    (units-short first (p .0), units-short second (p .1))
 
 -- ---- the returns
 
@@ -162,7 +163,7 @@ rank-reads s t h k {a} {b} f g =
     let q = fills-done (k .fills) .0 in
     let bytes : ranked a ≡ done (rank (readText s) (readText t)) = rw (two-bytes-taken s t e q) at (f .answers) in
     let codes : ranked b ≡ done (rank (readText s) (readText t)) =
-    rw (read-filled h, read-filled k, two-taken (readText s) (readText t) (read-taken s e) (read-taken t q)) at (g .answers) in
+    rw (read-filled h, read-filled k, two-taken (readText s) (readText t) (read-taken encodes8 s e) (read-taken encodes8 t q)) at (g .answers) in
     ranked-injective a b (bytes ∙ sym codes)
 
 -- MENDED TEXTS STAND AS THE TEXTS DO, where they are short enough to be ranked
@@ -173,6 +174,6 @@ rank-mends s t h k l m {a} {b} f g =
     let q = fills-done (k .fills) .0 in
     let bytes : ranked a ≡ done (rankBytes s t) = rw (two-bytes-taken s t e q) at (f .answers) in
     let again : ranked b ≡ done (rankBytes s t) =
-    rw (done-filled h, done-filled k, two-bytes-taken (mended s) (mended t) (bytes-taken (mended s) l) (bytes-taken (mended t) m), rank-mended s t)
+    rw (done-filled h, done-filled k, two-bytes-taken (mended s) (mended t) (units-taken (mended s) l) (units-taken (mended t) m), rank-mended s t)
     at (g .answers) in
     ranked-injective a b (bytes ∙ sym again)

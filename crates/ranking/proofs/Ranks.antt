@@ -14,11 +14,12 @@ use mathlib.Core.List.{List, [], _∷_, append-nil}
 use Prim.Native.Nat.{ℕ}
 use native.Mathlib.Omega.{arith}
 use Rattle.laws.specs.Lists.{All, none, also}
+use Rattle.joining.specs.Joining.{join}
 use Rattle.joining.proofs.Roles.{role-between}
 use Rattle.joining.proofs.Pairs.{pair-none}
-use Rattle.joining.specs.Joining.{join}
 use Rattle.joining.proofs.Joins.{join-closed, join-join}
 use Rattle.utf8.specs.Utf8.{readText}
+use Rattle.utf8.proofs.Round.{encodes8}
 use Rattle.mending.specs.Mending.{mended}
 use Rattle.mending.proofs.Round.{mended-read}
 use Rattle.ranking.specs.Items.{Item, number, character, isDigit, digitsValue, items}
@@ -207,7 +208,7 @@ bytes-chain x y z = rank-chain (readText x) (readText y) (readText z)
 
 -- texts that are mended to the same are equal, and stand alike to every third
 mended-same : (s t : List ℕ) → mended s ≡ mended t → join (readText s) ≡ join (readText t)
-mended-same s t e = sym (mended-read s) ∙ ap readText e ∙ mended-read t
+mended-same s t e = sym (mended-read encodes8 s) ∙ ap readText e ∙ mended-read encodes8 t
 
 pub same-mended-equal : (s t : List ℕ) → mended s ≡ mended t → rankBytes s t ≡ Equal
 unfolding rankBytes
@@ -220,4 +221,4 @@ same-mended-alike s t e u = same-joined-alike (readText s) (readText t) (mended-
 -- MENDED TEXTS STAND AS THE TEXTS THEMSELVES DO
 pub rank-mended : (s t : List ℕ) → rankBytes (mended s) (mended t) ≡ rankBytes s t
 unfolding rankBytes
-rank-mended s t = rw (mended-read s, mended-read t) (rank-joined (readText s) (readText t))
+rank-mended s t = rw (mended-read encodes8 s, mended-read encodes8 t) (rank-joined (readText s) (readText t))

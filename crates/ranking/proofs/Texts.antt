@@ -17,23 +17,24 @@ use lib.ListN.{length, getD, drop, drop-of-length-le}
 use lib.Seq.{drop-cons, getD-drop}
 use borrow.Author.Tests.{ne-eqb, lt-ltb, le-ltb, ltb-true, ltb-false}
 use Rattle.laws.specs.Lists.{All, none, also}
-use Rattle.laws.specs.Pieces.{good, pieces}
 use Rattle.laws.proofs.Bools.{test, and-left, and-right}
 use Rattle.laws.proofs.Lists.{all-append}
 use Rattle.joining.specs.Roles.{pair}
+use Rattle.joining.specs.Joining.{join}
 use Rattle.joining.proofs.Roles.{role-between}
 use Rattle.joining.proofs.Pairs.{pair-none, no-fourth}
-use Rattle.joining.specs.Joining.{join}
 use Rattle.joining.proofs.Joins.{join-one, join-apart, join-joined, join-closed}
-use Rattle.utf8.specs.Table37.{kindOf}
-use Rattle.utf8.specs.Reading.{goodOf}
-use Rattle.utf8.specs.declared.decode.Taken.{Taken}
-use Rattle.utf8.proofs.Rows.{row-between}
-use Rattle.utf8.proofs.Forms.{ends, full-by}
-use Rattle.utf8.proofs.Takes.{test-true, test-false}
-use Rattle.utf8.proofs.Round.{full-piece}
+use Rattle.encodings.specs.Pieces.{good, pieces}
+use Rattle.encodings.specs.Reading.{goodOf}
+use Rattle.encodings.specs.declared.answer.Taken.{Taken}
+use Rattle.encodings.proofs.Rows.{row-between, ends, full-by}
+use Rattle.encodings.proofs.Taking.{test-true, test-false}
+use Rattle.encodings.proofs.Texts.{full-piece}
+use Rattle.utf8.specs.Table37.{table37, kindOf}
+use Rattle.utf8.specs.Utf8.{form8}
+use Rattle.utf8.proofs.Round.{encodes8}
 use Rattle.mending.specs.Characters.{characterFrom}
-use Rattle.mending.proofs.Characters.{apart-end, stops, Character, character-next}
+use Rattle.mending.proofs.Characters.{apart-end, grown-stops, Character, character-next}
 use Rattle.ranking.specs.Items.{isDigit}
 use Rattle.ranking.specs.Ranking.{rank, rankBytes}
 use Rattle.ranking.specs.Inner.{textAfter, nextOf, rankFrom, goesOnAs, isApartAs, Passed, Steps, joinedFrom, mendedFrom, NextBegins, Reached, Follows, Advanced, WithinLimit, Advances, isPlain, Alike, AlikeAt}
@@ -167,7 +168,7 @@ byte-end text at h k e f =
 byte-inside : (text : List ℕ) (at : ℕ) → at < length text → {t : Taken} → t ≡ characterFrom (pieces kindOf (drop at text)) → {r : Next}
     → r ≡ nextOf (t .code) (t .size) → NextBegins mendedFrom text at r
 byte-inside text at h {t} e f =
-    let c : Character text at t = character-next text at h e in
+    let c : Character form8 text at t = character-next encodes8 text at h e in
     begins-as f (begins-front mendedFrom text at (t .code) (t .size) (c .joins) (c .more) (c .goes .inside))
 
 pub byte-begins : (text : List ℕ) (at : ℕ) → at ≤ length text → {t : Taken} → t ≡ characterFrom (pieces kindOf (drop at text)) → {r : Next}
@@ -342,11 +343,11 @@ low-front text at h l =
     let a = getD text at 0 in
     let piece : pieces kindOf (drop at text) ≡ good (a ∷ []) ∷ pieces kindOf (drop (at + 1) text) =
     ap (pieces kindOf) (at-index text at (at + 1) (omega arith) h)
-    ∙ full-piece (a ∷ []) (drop (at + 1) text) (full-by a (row-between 0x00 0x7F tt (omega arith) (omega arith)) ends) in
+    ∙ full-piece encodes8 (a ∷ []) (drop (at + 1) text) (full-by table37 a (row-between table37 0x00 0x7F tt (omega arith) (omega arith)) ends) in
     let alone : goodOf a 1 ≡ characterFrom (pieces kindOf (drop at text)) =
-    sym (ap characterFrom piece ∙ stops (goodOf a 1) (pieces kindOf (drop (at + 1) text))
+    sym (ap characterFrom piece ∙ grown-stops form8 (goodOf a 1) (pieces kindOf (drop (at + 1) text))
     (λ b. pair-none a b (role-between 0x00 0x7F a tt (omega arith) (omega arith)))) in
-    let c : Character text at (goodOf a 1) = character-next text at h alone in
+    let c : Character form8 text at (goodOf a 1) = character-next encodes8 text at h alone in
     c .joins
 
 module _ {first second : List ℕ} {i j : ℕ} where

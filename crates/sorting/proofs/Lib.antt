@@ -5,5 +5,7 @@ pub mod Sorted
 pub mod Placing
 pub mod Ordering
 pub mod Decimals
+pub mod Backing
+pub mod NumberLines
 pub mod Printed
 pub mod Bound

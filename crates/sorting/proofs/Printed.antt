@@ -15,10 +15,13 @@ use mathlib.Core.List.{List, [], _∷_}
 use Prim.Native.Nat.{ℕ, zero, suc, _+_, _-_, _*_, _≤_, _<_}
 use native.Mathlib.Nat.{suc-add}
 use native.Mathlib.Omega.{arith}
+use lib.Dec.{ltb}
 use lib.ListN.{length, take, drop, length-append}
+use borrow.Author.Tests.{ltb-true, ltb-false}
 use Rattle.laws.specs.Lists.{each}
 use Rattle.laws.specs.Writing.{front, Fronts}
-use Rattle.laws.proofs.Lists.{each-cons, length-each-most}
+use Rattle.laws.proofs.Bools.{test}
+use Rattle.laws.proofs.Lists.{each-cons}
 use Rattle.answers.specs.Checks.{Check, passes, refuses}
 use Rattle.answers.specs.Verdicts.{done, refused, verdict, fits}
 use Rattle.answers.specs.Answers.{told}
@@ -33,8 +36,9 @@ use Rattle.labels.specs.declared.image.Judged.the-variants.{Records, Refused, B
 use Rattle.labels.proofs.Images.{taken-short, taken-count}
 use Rattle.labels.proofs.Calls.{judged-injective}
 use Rattle.sorting.specs.Sorting.{standing, Member, here, there, InOrder, orderOf, Orders}
-use Rattle.sorting.specs.Printing.{decimalOf, numberLine, printed, Prints}
-use Rattle.sorting.proofs.Decimals.{Digits, one, two, three, digits, line-most, long-three}
+use Rattle.sorting.specs.Decimals.{digitsWithin, decimalOf}
+use Rattle.sorting.specs.Printing.{numberLine, printed, Prints}
+use Rattle.sorting.proofs.NumberLines.{line-long, line-most}
 
 -- ---- a list with one of its numbers left out
 
@@ -108,39 +112,34 @@ counted-size f (suc n) x all e =
 
 -- ---- HOW LONG THE LINES ARE AT MOST
 
+below-size : (n : ℕ) → length (each numberLine (below (suc n))) ≡ length (numberLine n) + length (each numberLine (below n))
+unfolding below
+below-size n = ap length (each-cons numberLine n (below n)) ∙ length-append (numberLine n) (each numberLine (below n))
+
 -- 10 lines of 2 bytes and 90 of 3
 below-hundred : length (each numberLine (below 100)) ≡ 290
-unfolding below each numberLine decimalOf
+unfolding below each numberLine decimalOf digitsWithin
 below-hundred = refl
 
-below-more : (m : ℕ) → length (each numberLine (below (m + 100))) ≡ 290 + 4 * m
-unfolding below
-below-more zero = below-hundred
-below-more (suc m) =
-    rw (suc-add m 100) (omega (
-      arith,
-      ap length (each-cons numberLine (m + 100) (below (m + 100))) ∙ length-append (numberLine (m + 100)) (each numberLine (below (m + 100))),
-      long-three (m + 100) (omega arith),
-      below-more m,
-    ))
+-- and then 900 of 4
+below-more : (m : ℕ) → m ≤ 900 → length (each numberLine (below (m + 100))) ≡ 290 + 4 * m
+below-more zero h = below-hundred
+below-more (suc m) h =
+    rw (suc-add m 100)
+    (omega (arith, below-size (m + 100), line-long 2 (m + 100) (omega arith) (omega arith), below-more m (omega arith)))
 
-below-length : (n : ℕ) → length (below n) ≡ n
-unfolding below
-below-length zero = refl
-below-length (suc n) = ap suc (below-length n)
+below-short : (n : ℕ) → n ≤ 1000 → length (each numberLine (below n)) ≤ 4 * n
+unfolding below each
+below-short zero h = omega arith
+below-short (suc n) h = omega (arith, below-size n, line-most 2 n (omega arith), below-short n (omega arith))
 
 pub below-most : (n : ℕ) → n ≤ 682 → length (each numberLine (below n)) ≤ 2618
-below-most n most = by (digits n)
+below-most n most = test (ltb n 100) (λ q. omega (arith, ltb-true n 100 q, below-short n (omega arith))) (λ q. long (ltb-false n 100 q))
   where
-    short : n < 100 → length (each numberLine (below n)) ≤ 2618
-    short h = omega (arith, length-each-most numberLine 4 line-most (below n), below-length n)
-
-    by : Digits n → length (each numberLine (below n)) ≤ 2618
-    by (one h) = short (omega arith)
-    by (two h g) = short g
-    by (three h) =
+    long : 100 ≤ n → length (each numberLine (below n)) ≤ 2618
+    long h =
         let m : n ≡ n - 100 + 100 = omega arith in
-        omega (arith, ap (λ (k : ℕ). length (each numberLine (below k))) m ∙ below-more (n - 100))
+        omega (arith, ap (λ (k : ℕ). length (each numberLine (below k))) m ∙ below-more (n - 100) (omega arith))
 
 -- at most 682 numbers in order, each once
 pub printed-most : {stands : ℕ → ℕ → Order} {n : ℕ} {x : List ℕ} → InOrder stands n x → length x ≡ n → n ≤ 682 → length (each numberLine x) ≤ 2618
@@ -149,7 +148,7 @@ printed-most {n = n} {x = x} good sized most = omega (arith, counted-size number
 -- and 682 of them are printed in just that many bytes
 pub printed-full : {stands : ℕ → ℕ → Order} {n : ℕ} {x : List ℕ} → InOrder stands n x → length x ≡ n → n ≡ 682 → length (each numberLine x) ≡ 2618
 printed-full {n = n} {x = x} good sized full =
-    counted-size numberLine n x (good .all) sized ∙ ap (λ (k : ℕ). length (each numberLine (below k))) full ∙ below-more 582
+    counted-size numberLine n x (good .all) sized ∙ ap (λ (k : ℕ). length (each numberLine (below k))) full ∙ below-more 582 (omega arith)
 
 -- so of an image within its limit
 pub image-printed-most : (image : List ℕ) → length image ≤ 65472 → InOrder (standing image) (countOf image) (orderOf image)

@@ -12,7 +12,7 @@ use Prim.Native.Nat.{ℕ}
 use native.Mathlib.Omega.{arith}
 use Rattle.answers.specs.Checks.{passes}
 use Rattle.answers.specs.declared.refusal.Refusal.{Refusal}
-use Rattle.answers.proofs.Checks.{bytes-taken}
+use Rattle.answers.proofs.Checks.{units-taken}
 use Rattle.ranking.specs.Ranking.{byValue, swapped, thenBy, rankBytes, takesTwoBytes, RanksBytes}
 use Rattle.ranking.specs.declared.order.Order.{Order}
 use Rattle.ranking.specs.declared.order.Order.the-variants.{Before, Equal, After}
@@ -113,8 +113,8 @@ module _ (image : List ℕ) (i j : ℕ) {first second : List ℕ} (one : first �
     (says : RanksBytes first second r) where
   labels-taken : takesTwoBytes first second ≡ passes
   labels-taken =
-      two-bytes-taken first second (bytes-taken first (rw one (omega (arith, label-short image i))))
-      (bytes-taken second (rw two (omega (arith, label-short image j))))
+      two-bytes-taken first second (units-taken first (rw one (omega (arith, label-short image i))))
+      (units-taken second (rw two (omega (arith, label-short image j))))
 
   labels-answer : r ≡ Stands (rankBytes first second)
   labels-answer = ranked-injective r (Stands (rankBytes first second)) (rw labels-taken at (says .answers))

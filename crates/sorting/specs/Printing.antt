@@ -1,24 +1,15 @@
 -- What the ranker prints (document 01, 'Programs'): the record numbers, from 0, one a line, in
 -- label order.
 use mathlib.Core.Path.{_≡_}
-use mathlib.Core.Bool.{cond}
 use mathlib.Core.List.{List, [], _∷_, _++_}
-use Prim.Native.Nat.{ℕ, _+_, _/_, _%_}
-use lib.Dec.{ltb}
+use Prim.Native.Nat.{ℕ}
 use lib.ListN.{length}
 use Rattle.laws.specs.Lists.{each}
 use Rattle.answers.specs.Verdicts.{Fills}
 use Rattle.labels.specs.Images.{takesImage, badRecord, judgedAs, namedBy}
 use Rattle.labels.specs.declared.image.Judged.{Judged}
 use Rattle.sorting.specs.Sorting.{orderOf}
-
-abbrev pub decimalDigit : ℕ → ℕ
-decimalDigit d = 0x30 + d % 10
-
--- a number below 1000, with no needless digit: that it reads back as the number is shown
--- (proofs/Decimals)
-unfoldable pub decimalOf : ℕ → List ℕ
-decimalOf k = cond (ltb k 10) (decimalDigit k ∷ []) (cond (ltb k 100) (decimalDigit (k / 10) ∷ decimalDigit k ∷ []) (decimalDigit (k / 100) ∷ decimalDigit (k / 10) ∷ decimalDigit k ∷ []))
+use Rattle.sorting.specs.Decimals.{decimalOf}
 
 unfoldable pub numberLine : ℕ → List ℕ
 numberLine k = decimalOf k ++ (0x0A ∷ [])

@@ -1,10 +1,11 @@
 // The lines that the ranker prints: record numbers in decimal, one a line.
+use crate::decimal;
 use answers::Refusal;
 use labels::Judged;
 ghost use mathlib.Core.Path.{_≡_};
-ghost use Prim.Native.Nat.{_<_, _≤_};
+ghost use Prim.Native.Nat.{_≤_};
 ghost use lib.ListN.{length, take};
-ghost use Rattle.sorting.specs.Printing.{numberLine, decimalDigit, Prints};
+ghost use Rattle.sorting.specs.Printing.{numberLine, Prints};
 ghost use Rattle.laws.specs.Writing.{Room, Wrote, Fronts};
 ghost use Rattle.laws.specs.Lists.{each};
 
@@ -12,55 +13,7 @@ ghost use Rattle.laws.specs.Lists.{each};
 fn line_size(number: u32) -> usize
     ensures { λ r. ⌜ r ≡ length (numberLine number) ⌝ }
 {
-    match number {
-        0..=9 => 2,
-        10..=99 => 3,
-        _ => 4,
-    }
-}
-
-// The last digit of a number, in ASCII.
-fn digit(number: u32) -> u8
-    ensures { λ r. ⌜ r ≡ decimalDigit number ⌝ }
-{
-    (0x30 + number % 10) as u8
-}
-
-// Writes the line of a number of one digit.
-fn put_one(number: u32, out: &mut [u8], at: usize) -> usize
-    requires { ⌜ number < 10 ⌝ }
-    requires { ⌜ Room (now out) at (numberLine number) ⌝ }
-    ensures { λ r. ⌜ Wrote (now (out .entry)) at (numberLine number) r (now (out .exit)) ⌝ }
-{
-    out[at] = digit(number);
-    out[at + 1] = 0x0A;
-    at + 2
-}
-
-// Writes the line of a number of two digits.
-fn put_two(number: u32, out: &mut [u8], at: usize) -> usize
-    requires { ⌜ 10 ≤ number ⌝ }
-    requires { ⌜ number < 100 ⌝ }
-    requires { ⌜ Room (now out) at (numberLine number) ⌝ }
-    ensures { λ r. ⌜ Wrote (now (out .entry)) at (numberLine number) r (now (out .exit)) ⌝ }
-{
-    out[at] = digit(number / 10);
-    out[at + 1] = digit(number);
-    out[at + 2] = 0x0A;
-    at + 3
-}
-
-// Writes the line of a number of three digits.
-fn put_three(number: u32, out: &mut [u8], at: usize) -> usize
-    requires { ⌜ 100 ≤ number ⌝ }
-    requires { ⌜ Room (now out) at (numberLine number) ⌝ }
-    ensures { λ r. ⌜ Wrote (now (out .entry)) at (numberLine number) r (now (out .exit)) ⌝ }
-{
-    out[at] = digit(number / 100);
-    out[at + 1] = digit(number / 10);
-    out[at + 2] = digit(number);
-    out[at + 3] = 0x0A;
-    at + 4
+    decimal::decimal_size(number) + 1
 }
 
 // Writes a number's line from `at` on, and answers the index after it.
@@ -68,13 +21,9 @@ fn put(number: u32, out: &mut [u8], at: usize) -> usize
     requires { ⌜ Room (now out) at (numberLine number) ⌝ }
     ensures { λ r. ⌜ Wrote (now (out .entry)) at (numberLine number) r (now (out .exit)) ⌝ }
 {
-    if number < 10 {
-        return put_one(number, out, at);
-    }
-    if number < 100 {
-        return put_two(number, out, at);
-    }
-    put_three(number, out, at)
+    let end = decimal::put_decimal(number, out, at);
+    out[end] = 0x0A;
+    end + 1
 }
 
 // The most records of an image.

@@ -1,7 +1,7 @@
 -- What the functions of a row know at their returns. In order: the bounds of the second byte are
--- those of a continuation byte (`second-least`, `second-most`); the bits that the bytes of a row
--- carry are the value (`two-bits`, `three-bits`, `four-bits`). Sequences that are begun, and how
--- they end, stand in proofs/Takes.
+-- those of a continuation byte (`second-least`, `second-some`, `second-most`); the bits that the
+-- bytes of a row carry are the value (`two-bits`, `three-bits`, `four-bits`). Sequences that are
+-- begun, and how they end, stand in crate encodings, proofs/Taking.
 use mathlib.Core.Path.{_≡_}
 use mathlib.Core.Bool.{true}
 use mathlib.Core.Option.{some}
@@ -10,19 +10,24 @@ use Prim.Native.Nat.{ℕ, _+_, _-_, _*_, _%_, _≤_}
 use native.Mathlib.Omega.{arith}
 use Rattle.laws.specs.Ranges.{within}
 use Rattle.laws.proofs.Ranges.{within-least, within-most}
-use Rattle.utf8.specs.Table37.{Bytes, _to_, continuation}
+use Rattle.encodings.specs.Rows.{Units, _to_}
+use Rattle.utf8.specs.Table37.{continuation}
 use Rattle.utf8.specs.Utf8.{valueOf}
 use Rattle.utf8.specs.Inner.{Begins}
-use Rattle.utf8.proofs.Rows.{row-inner, inner-least, inner-most}
+use Rattle.utf8.proofs.Rows.{row-least, row-most}
 
 -- ---- the second byte
 
-module _ {text : List ℕ} {at a low high : ℕ} {row : List Bytes} {lo hi : ℕ} (b : Begins text at a (some ((low to high) ∷ row)) lo hi) where
+module _ {text : List ℕ} {at a low high : ℕ} {row : List Units} {lo hi : ℕ} (b : Begins text at a (some ((low to high) ∷ row)) lo hi) where
   pub second-least : 0x80 ≤ low
-  second-least = inner-least low high row (row-inner a (b .picks))
+  second-least = row-least a (b .picks)
+
+  -- so no sequence goes on with 0
+  pub second-some : 1 ≤ low
+  second-some = omega (arith, second-least)
 
   pub second-most : high ≤ 0xBF
-  second-most = inner-most low high row (row-inner a (b .picks))
+  second-most = row-most a (b .picks)
 
 -- ---- the bits
 

@@ -1,46 +1,21 @@
--- The well-formed sequences, out of table 3-7. In order: sequences that follow a row to its end
--- (`Follow`, `follow-full` and back `full-follow`, `full-by`); the well-formed sequences by their
--- lengths, with the bounds of their bytes and of the value (`Formed`, `full-formed`); and EVERY
--- WELL-FORMED SEQUENCE HAS A SCALAR VALUE, no surrogate and nothing over 10FFFF (`full-good`).
-use mathlib.Core.Path.{_≡_, refl, sym}
-use mathlib.Core.Bool.{Bool, true, false, cond}
-use mathlib.Core.Option.{none, some}
+-- The well-formed sequences, out of table 3-7. In order: by their lengths, with the bounds of their
+-- bytes and of the value (`Formed`, `full-formed`); and EVERY WELL-FORMED SEQUENCE HAS A SCALAR
+-- VALUE, no surrogate and nothing over 10FFFF (`full-good`).
+use mathlib.Core.Path.{_≡_, sym}
+use mathlib.Core.Bool.{false}
+use mathlib.Core.Option.{none}
 use mathlib.Core.Logic.{inl, inr}
 use mathlib.Core.List.{List, [], _∷_}
 use Prim.Native.Nat.{ℕ, _≤_}
 use native.Mathlib.Omega.{arith}
-use Rattle.laws.specs.Ranges.{within}
-use Rattle.laws.specs.Pieces.{full, bad as neither}
-use Rattle.laws.proofs.Ranges.{within-yes, within-least, within-most, Cases, look-cases}
+use Rattle.laws.proofs.Ranges.{Cases, look-cases}
 use Rattle.answers.specs.Checks.{bad}
 use Rattle.answers.proofs.Checks.{good-low, good-high}
-use Rattle.utf8.specs.Table37.{Bytes, _to_, continuation, table37, follows, inRow, rowOf, kindOf}
+use Rattle.encodings.specs.Pieces.{full}
+use Rattle.encodings.specs.Rows.{_to_, inRow, rowIn}
+use Rattle.encodings.proofs.Rows.{full-bad, Follow, ends, goes, full-follow}
+use Rattle.utf8.specs.Table37.{continuation, table37, kindOf}
 use Rattle.utf8.specs.Utf8.{valueOf}
-use Rattle.utf8.proofs.Rows.{full-bad, part-full}
-
--- ---- sequences that follow a row to its end
-
-pub data Follow : List Bytes → List ℕ → Type 0 where
-  ends : Follow [] []
-  goes : {lo hi b : ℕ} {row : List Bytes} {x : List ℕ} → lo ≤ b → b ≤ hi → Follow row x → Follow ((lo to hi) ∷ row) (b ∷ x)
-
-pub follow-full : {row : List Bytes} {x : List ℕ} → Follow row x → follows row x ≡ full
-follow-full ends = refl
-follow-full (goes {lo} {hi} {b} l m f) = rw (within-yes lo hi b l m) (follow-full f)
-
-pub full-follow : (row : List Bytes) (x : List ℕ) → follows row x ≡ full → Follow row x
-full-follow [] [] e = ends
-full-follow [] (b ∷ x) e = absurd (full-bad (sym e))
-full-follow ((lo to hi) ∷ row) [] e = absurd (part-full e)
-full-follow ((lo to hi) ∷ row) (b ∷ x) e = by (within lo hi b) refl e (full-follow row x)
-  where
-    by : (t : Bool) → within lo hi b ≡ t → cond t (follows row x) neither ≡ full → (follows row x ≡ full → Follow row x)
-        → Follow ((lo to hi) ∷ row) (b ∷ x)
-    by true q e rest = goes (within-least lo hi b q) (within-most lo hi b q) (rest e)
-    by false q e rest = absurd (full-bad (sym e))
-
-pub full-by : (a : ℕ) {row : List Bytes} {x : List ℕ} → rowOf a ≡ some row → Follow row x → kindOf (a ∷ x) ≡ full
-full-by a e f = rw e (follow-full f)
 
 -- ---- the well-formed sequences by their lengths, with the bounds of the value
 
@@ -101,7 +76,7 @@ formed-row a x (inr (inr (inr (inr (inr (inr (inr (inr (inl h))))))))) = formed-
 formed-row a x (inr (inr (inr (inr (inr (inr (inr (inr (inr e))))))))) = absurd (full-bad (sym e))
 
 pub full-formed : (u : List ℕ) → kindOf u ≡ full → Formed u
-unfolding rowOf
+unfolding rowIn
 full-formed [] e = absurd (full-bad (sym e))
 full-formed (a ∷ x) e = formed-row a x (look-cases none (λ r. inRow r x ≡ full) a table37 e)
 

@@ -2,9 +2,6 @@
 -- their own.
 pub mod Rows
 pub mod Forms
-pub mod Takes
-pub mod Reading
 pub mod Writing
 pub mod Bits
 pub mod Round
-mod Ills

@@ -1,38 +1,29 @@
--- UTF-8 written and read, and read and written: the round trips. Of a code point that is not bad,
--- the bytes are well-formed, have its value, and are one piece wherever they stand; so a text's
--- bytes read as the text. Back, a well-formed sequence is the bytes of its value; so a text of
--- bytes with no ill-formed part is written back as it was.
+-- UTF-8 is an encoding form: of a code point that is not bad, the bytes are well-formed and have its
+-- value; and a well-formed sequence is the bytes of its value. So what is written reads back, and
+-- what is read is written back (crate encodings, proofs/Texts).
 --
--- In order: a well-formed sequence is a piece wherever it stands (`full-piece`); the table's first
--- column (`Row`, `row-of`); from a code point to its bytes (`bytes-full`, `bytes-value`,
--- `bytes-piece`) and of a text (`read-write`, `ill-write`); from well-formed bytes to the code
--- point (`full-bytes`) and of a text (`write-read`).
-use mathlib.Core.Path.{_≡_, sym, _∙_}
+-- In order: the table's first column (`Row`, `row-of`); from a code point to its bytes
+-- (`bytes-full`, `bytes-value`); from well-formed bytes to the code point (`full-bytes`); and the
+-- form (`encodes8`).
+use mathlib.Core.Path.{_≡_, _∙_}
 use mathlib.Core.Bool.{false}
 use mathlib.Core.Logic.{⊎-elim}
-use mathlib.Core.List.{List, [], _∷_, _++_}
+use mathlib.Core.List.{List}
 use Prim.Native.Nat.{ℕ, _+_, _-_, _*_, _/_, _%_, _≤_, _<_}
 use native.Mathlib.Omega.{arith}
 use lib.Dec.{ltb}
 use borrow.Author.Tests.{ltb-true, ltb-false}
-use Rattle.laws.specs.Lists.{All, none as nobody, also}
-use Rattle.laws.specs.Pieces.{full, Piece, good, pieces, illCount}
-use Rattle.laws.specs.Readings.{Reading, nothing, formed, broken}
-use Rattle.laws.specs.Damage.{codes}
 use Rattle.laws.proofs.Bools.{test}
-use Rattle.laws.proofs.Lists.{each-nil, each-cons}
 use Rattle.answers.specs.Checks.{bad}
 use Rattle.answers.proofs.Checks.{good-most, good-gap}
-use Rattle.utf8.specs.Table37.{kindOf}
-use Rattle.utf8.specs.Utf8.{valueOf, bytesOf, utf8, readText, illText, writeText}
-use Rattle.utf8.proofs.Rows.{row-between}
-use Rattle.utf8.proofs.Forms.{Follow, ends, goes, full-by, Formed, of-one, of-two, of-three, of-four, full-formed}
-use Rattle.utf8.proofs.Reading.{reading8, reading8-unique}
+use Rattle.encodings.specs.Pieces.{full}
+use Rattle.encodings.specs.Forms.{Encodes}
+use Rattle.encodings.proofs.Rows.{row-between, ends, goes, full-by}
+use Rattle.utf8.specs.Table37.{table37, kindOf}
+use Rattle.utf8.specs.Utf8.{valueOf, bytesOf, form8}
+use Rattle.utf8.proofs.Rows.{coherent8, leads8}
+use Rattle.utf8.proofs.Forms.{full-good, Formed, of-one, of-two, of-three, of-four, full-formed}
 use Rattle.utf8.proofs.Writing.{bytes-one, bytes-two, bytes-three, bytes-four, Width, one, two, three, four, width}
-
--- A WELL-FORMED SEQUENCE IS A PIECE WHEREVER IT STANDS
-pub full-piece : (u t : List ℕ) → kindOf u ≡ full → pieces kindOf (u ++ t) ≡ good u ∷ pieces kindOf t
-full-piece u t e = sym (reading8-unique (formed u e (reading8 t)))
 
 -- ---- the first column of table 3-7: the code points by rows, each named by its first byte
 
@@ -67,37 +58,37 @@ pub bytes-full : (c : ℕ) → bad c ≡ false → kindOf (bytesOf c) ≡ full
 bytes-full c g = by (row-of c g)
   where
     by : Row c → kindOf (bytesOf c) ≡ full
-    by (row-00 h) = rw (bytes-one c h) (full-by c (row-between 0x00 0x7F tt (omega arith) (omega arith)) ends)
+    by (row-00 h) = rw (bytes-one c h) (full-by table37 c (row-between table37 0x00 0x7F tt (omega arith) (omega arith)) ends)
     by (row-C2 h k) =
         rw (bytes-two c h k)
-        (full-by (0xC0 + c / 64) (row-between 0xC2 0xDF tt (omega arith) (omega arith)) (goes (omega arith) (omega arith) ends))
+        (full-by table37 (0xC0 + c / 64) (row-between table37 0xC2 0xDF tt (omega arith) (omega arith)) (goes (omega arith) (omega arith) ends))
     by (row-E0 h k) =
         rw (bytes-three c (omega arith) (omega arith))
-        (full-by (0xE0 + c / 4096) (row-between 0xE0 0xE0 tt (omega arith) (omega arith))
+        (full-by table37 (0xE0 + c / 4096) (row-between table37 0xE0 0xE0 tt (omega arith) (omega arith))
         (goes (omega arith) (omega arith) (goes (omega arith) (omega arith) ends)))
     by (row-E1 h k) =
         rw (bytes-three c (omega arith) (omega arith))
-        (full-by (0xE0 + c / 4096) (row-between 0xE1 0xEC tt (omega arith) (omega arith))
+        (full-by table37 (0xE0 + c / 4096) (row-between table37 0xE1 0xEC tt (omega arith) (omega arith))
         (goes (omega arith) (omega arith) (goes (omega arith) (omega arith) ends)))
     by (row-ED h k) =
         rw (bytes-three c (omega arith) (omega arith))
-        (full-by (0xE0 + c / 4096) (row-between 0xED 0xED tt (omega arith) (omega arith))
+        (full-by table37 (0xE0 + c / 4096) (row-between table37 0xED 0xED tt (omega arith) (omega arith))
         (goes (omega arith) (omega arith) (goes (omega arith) (omega arith) ends)))
     by (row-EE h k) =
         rw (bytes-three c (omega arith) k)
-        (full-by (0xE0 + c / 4096) (row-between 0xEE 0xEF tt (omega arith) (omega arith))
+        (full-by table37 (0xE0 + c / 4096) (row-between table37 0xEE 0xEF tt (omega arith) (omega arith))
         (goes (omega arith) (omega arith) (goes (omega arith) (omega arith) ends)))
     by (row-F0 h k) =
         rw (bytes-four c h)
-        (full-by (0xF0 + c / 262144) (row-between 0xF0 0xF0 tt (omega arith) (omega arith))
+        (full-by table37 (0xF0 + c / 262144) (row-between table37 0xF0 0xF0 tt (omega arith) (omega arith))
         (goes (omega arith) (omega arith) (goes (omega arith) (omega arith) (goes (omega arith) (omega arith) ends))))
     by (row-F1 h k) =
         rw (bytes-four c (omega arith))
-        (full-by (0xF0 + c / 262144) (row-between 0xF1 0xF3 tt (omega arith) (omega arith))
+        (full-by table37 (0xF0 + c / 262144) (row-between table37 0xF1 0xF3 tt (omega arith) (omega arith))
         (goes (omega arith) (omega arith) (goes (omega arith) (omega arith) (goes (omega arith) (omega arith) ends))))
     by (row-F4 h k) =
         rw (bytes-four c (omega arith))
-        (full-by (0xF0 + c / 262144) (row-between 0xF4 0xF4 tt (omega arith) (omega arith))
+        (full-by table37 (0xF0 + c / 262144) (row-between table37 0xF4 0xF4 tt (omega arith) (omega arith))
         (goes (omega arith) (omega arith) (goes (omega arith) (omega arith) (goes (omega arith) (omega arith) ends))))
 
 -- their value is the code point
@@ -112,19 +103,6 @@ bytes-value c = by (width c)
         let x : c / 64 / 64 ≡ c / 4096 = omega arith in
         let y : c / 4096 / 64 ≡ c / 262144 = omega arith in
         rw (bytes-four c h) (omega arith)
-
--- and they are one piece
-pub bytes-piece : (c : ℕ) → bad c ≡ false → (t : List ℕ) → pieces kindOf (bytesOf c ++ t) ≡ good (bytesOf c) ∷ pieces kindOf t
-bytes-piece c g t = full-piece (bytesOf c) t (bytes-full c g)
-
--- WHAT IS WRITTEN READS BACK, and nothing of it is ill-formed
-pub read-write : {x : List ℕ} → All (λ c. bad c ≡ false) x → readText (writeText x) ≡ x
-read-write nobody = rw (each-nil bytesOf)
-read-write (also {a = c} {x = x} g p) = rw (each-cons bytesOf c x, bytes-piece c g (writeText x), bytes-value c, read-write p)
-
-pub ill-write : {x : List ℕ} → All (λ c. bad c ≡ false) x → illText (writeText x) ≡ 0
-ill-write nobody = rw (each-nil bytesOf)
-ill-write (also {a = c} {x = x} g p) = rw (each-cons bytesOf c x, bytes-piece c g (writeText x)) (ill-write p)
 
 -- ---- from well-formed bytes to the code point
 
@@ -153,12 +131,13 @@ formed-bytes (of-four a b c d l m p q r s t u least most) =
 pub full-bytes : (u : List ℕ) → kindOf u ≡ full → bytesOf (valueOf u) ≡ u
 full-bytes u e = formed-bytes (full-formed u e)
 
--- of a reading
-reading-bytes : {t : List ℕ} {P : List (Piece ℕ)} → Reading kindOf t P → illCount P ≡ 0 → writeText (codes utf8 P) ≡ t
-reading-bytes nothing e = each-nil bytesOf
-reading-bytes (formed u {P = P} f r) e = rw (each-cons bytesOf (valueOf u) (codes utf8 P), full-bytes u f, reading-bytes r e)
-reading-bytes (broken u m r) e = absurd (omega arith)
-
--- WHAT IS READ IS WRITTEN BACK, where nothing of it is ill-formed
-pub write-read : (t : List ℕ) → illText t ≡ 0 → writeText (readText t) ≡ t
-write-read t e = reading-bytes (reading8 t) e
+-- UTF-8 IS AN ENCODING FORM
+pub encodes8 : Encodes form8
+encodes8 = record {
+  coherent = coherent8;
+  leads = leads8;
+  full-good = full-good;
+  full-units = full-bytes;
+  units-full = bytes-full;
+  units-code = λ c g. bytes-value c;
+}

@@ -3,24 +3,20 @@
 --
 -- In order: `bytesOf` by the bounds of the code point (`bytes-one` .. `bytes-four`); its length
 -- (`long-one` .. `long-four`, `bytes-least`, `bytes-most`), by a view of the four cases (`Width`);
--- a text's bytes (`write-append`, `write-most`, `write-least`); at a loop's index (`write-piece`,
--- `write-end`, `taken-most`); the bytes that fit from an index on (`fitting-all`, `fitting-full`,
--- `fitting-over`).
+-- those of U+FFFD (`mark-bytes`); a text's bytes (`write-most`, `write-least`); at a loop's index
+-- (`taken-most`).
 use mathlib.Core.Path.{_≡_, refl, sym, ap}
-use mathlib.Core.Bool.{Bool, true, false, _&&_}
-use mathlib.Core.List.{List, [], _∷_, _++_}
+use mathlib.Core.Bool.{Bool, true, false}
+use mathlib.Core.List.{List, [], _∷_}
 use Prim.Native.Nat.{ℕ, _+_, _*_, _/_, _%_, _≤_, _<_}
 use native.Mathlib.Omega.{arith}
-use lib.ListN.{length, getD, drop}
-use lib.Dec.{ltb, leb}
-use borrow.Author.Tests.{lt-ltb, le-ltb, ltb-true, ltb-false, le-leb, lt-leb}
-use Rattle.laws.specs.Lists.{each}
-use Rattle.laws.proofs.Bools.{and-not-right}
-use Rattle.laws.proofs.Lists.{each-end, each-append, length-each-least, length-each-most}
-use Rattle.laws.proofs.Filling.{Piece, each-piece}
+use lib.ListN.{length, getD}
+use lib.Dec.{ltb}
+use borrow.Author.Tests.{lt-ltb, le-ltb, ltb-true, ltb-false}
+use Rattle.laws.proofs.Lists.{length-each-least, length-each-most}
 use Rattle.answers.specs.Checks.{passes, takesText}
 use Rattle.answers.proofs.Checks.{good-most, taken-good}
-use Rattle.utf8.specs.Utf8.{bytesOf, writeText, fitting}
+use Rattle.utf8.specs.Utf8.{bytesOf, writeText}
 
 -- ---- a code point's bytes, by its bounds
 
@@ -94,10 +90,11 @@ bytes-most c = by (width c)
     by (three h k) = rw (bytes-three c h k) (omega arith)
     by (four h) = rw (bytes-four c h) (omega arith)
 
--- ---- a text's bytes
+-- the bytes of U+FFFD
+pub mark-bytes : bytesOf 0xFFFD ≡ 0xEF ∷ 0xBF ∷ 0xBD ∷ []
+mark-bytes = bytes-three 0xFFFD (omega arith) (omega arith)
 
-pub write-append : (x y : List ℕ) → writeText (x ++ y) ≡ writeText x ++ writeText y
-write-append x y = each-append bytesOf x y
+-- ---- a text's bytes
 
 -- at least n, at most 4n
 pub write-least : (x : List ℕ) → length x ≤ length (writeText x)
@@ -108,27 +105,6 @@ write-most x = length-each-most bytesOf 4 bytes-most x
 
 -- ---- what the loops over a text ask
 
-pub write-piece : (text : List ℕ) (i : ℕ) → i < length text → Piece (each bytesOf (drop i text)) (bytesOf (getD text i 0)) (each bytesOf (drop (i + 1) text))
-write-piece text i h = each-piece bytesOf 0 text i h
-
-pub write-end : (text : List ℕ) (i : ℕ) → length text ≤ i → each bytesOf (drop i text) ≡ []
-write-end text i h = each-end bytesOf text i h
-
 -- a code point of a text that is taken is within the limit
 pub taken-most : (text : List ℕ) → takesText text ≡ passes → (i : ℕ) → i < length text → getD text i 0 ≤ 0x10FFFF
 taken-most text e i h = good-most (getD text i 0) (taken-good text e i h)
-
--- ---- the bytes that fit from an index on
-
-module _ (c : ℕ) (out : List ℕ) (at : ℕ) where
-  pub fitting-all : c ≤ 0x10FFFF → at + length (bytesOf c) ≤ length out → fitting c out at ≡ bytesOf c
-  unfolding fitting
-  fitting-all h k = rw (le-leb c 0x10FFFF h, le-leb (at + length (bytesOf c)) (length out) k)
-
-  pub fitting-full : length out < at + length (bytesOf c) → fitting c out at ≡ []
-  unfolding fitting
-  fitting-full k = rw (and-not-right (leb c 0x10FFFF) _ (lt-leb (at + length (bytesOf c)) (length out) k))
-
-  pub fitting-over : 0x10FFFF < c → fitting c out at ≡ []
-  unfolding fitting
-  fitting-over h = rw (lt-leb c 0x10FFFF h)

@@ -1,15 +1,14 @@
--- UTF-8 as an encoding form, and the code points and bytes of texts: The Unicode Standard 15.0,
--- chapter 3, section 3.9, D92 with table 3-6 (the bits of a scalar value in its bytes). Which
--- sequences are well-formed stands in specs/Table37.
-use mathlib.Core.Bool.{Bool, cond, not, _&&_}
+-- UTF-8 as an encoding form: The Unicode Standard 15.0, chapter 3, section 3.9, D92 with table 3-6
+-- (the bits of a scalar value in its bytes). Which sequences are well-formed stands in
+-- specs/Table37; what is read and written in any form, in crate encodings. That this is an encoding
+-- form is shown in proofs/Round (`encodes8`).
+use mathlib.Core.Bool.{Bool, cond, not}
 use mathlib.Core.List.{List, [], _∷_}
 use Prim.Native.Nat.{ℕ, _+_, _-_, _*_, _/_, _%_}
-use lib.Dec.{ltb, leb}
-use lib.ListN.{length}
-use Rattle.laws.specs.Lists.{each}
+use lib.Dec.{ltb}
 use Rattle.laws.specs.Ranges.{within}
-use Rattle.laws.specs.Pieces.{Piece, good, ill, pieces, illCount}
-use Rattle.laws.specs.Damage.{Encoding, codes}
+use Rattle.encodings.specs.Damage.{Encoding}
+use Rattle.encodings.specs.Forms.{Form, readIn, illIn, firstIllIn, codeUnits, writeIn}
 use Rattle.utf8.specs.Table37.{kindOf}
 
 -- TABLE 3-6, from the bytes to the value: the bits of each byte that are not its marker, six from
@@ -33,32 +32,28 @@ bytesOf c =
 abbrev pub leads : ℕ → Bool
 leads b = not (within 0x80 0xBF b)
 
--- THE ENCODING
+-- THE ENCODING, and the encoding form
 abbrev pub utf8 : Encoding ℕ
 utf8 = record { kind = kindOf; code = valueOf; lead = leads }
 
--- reading a text of bytes: its code points, with one FFFD for each ill-formed maximal subpart; and
--- how many of these there are
+abbrev pub form8 : Form
+form8 = record { encoding = utf8; units = bytesOf }
+
+-- reading a text of bytes: its code points, with one FFFD for each ill-formed maximal subpart; how
+-- many of these there are; and the index of the first one, or the length if there is none
 abbrev pub readText : List ℕ → List ℕ
-readText bytes = codes utf8 (pieces kindOf bytes)
+readText = readIn form8
 
 abbrev pub illText : List ℕ → ℕ
-illText bytes = illCount (pieces kindOf bytes)
+illText = illIn form8
 
--- the index of the first ill-formed subpart, or the length of the text if there is none
-abbrev pub illIn : List (Piece ℕ) → ℕ
-illIn [] = 0
-illIn (good u ∷ P) = length u + illIn P
-illIn (ill u ∷ P) = 0
-
-unfoldable pub firstIll : List ℕ → ℕ
-firstIll text = illIn (pieces kindOf text)
+abbrev pub firstIll : List ℕ → ℕ
+firstIll = firstIllIn form8
 
 -- writing a text of code points
 abbrev pub writeText : List ℕ → List ℕ
-writeText text = each bytesOf text
+writeText = writeIn form8
 
--- the bytes of a code point, if a buffer has room for all of them from an index on; else none. A
--- number over 10FFFF has none
-unfoldable pub fitting : ℕ → List ℕ → ℕ → List ℕ
-fitting c out at = cond (leb c 0x10FFFF && leb (at + length (bytesOf c)) (length out)) (bytesOf c) []
+-- the bytes of one code point; a number over 10FFFF has none
+abbrev pub codeBytes : ℕ → List ℕ
+codeBytes = codeUnits form8

@@ -1,23 +1,18 @@
 // Decoding: what begins at an index of a text of bytes, by the rows of table 3-7, and where a text
 // is first ill-formed.
+use encodings::Taken;
 ghost use mathlib.Core.Path.{_≡_};
 ghost use mathlib.Core.Option.{some};
 ghost use mathlib.Core.List.{[], _∷_};
 ghost use lib.ListN.{getD, drop};
 ghost use Rattle.laws.specs.Ranges.{within};
-ghost use Rattle.laws.specs.Pieces.{pieces};
-ghost use Rattle.utf8.specs.Table37.{_to_, continuation, kindOf};
+ghost use Rattle.encodings.specs.Pieces.{pieces};
+ghost use Rattle.encodings.specs.Rows.{_to_};
+ghost use Rattle.encodings.specs.Reading.{goodOf, illOf};
+ghost use Rattle.utf8.specs.Table37.{continuation, kindOf};
 ghost use Rattle.utf8.specs.Utf8.{firstIll};
-ghost use Rattle.utf8.specs.Reading.{goodOf, illOf, takenFrom};
+ghost use Rattle.utf8.specs.Reading.{takenFrom};
 ghost use Rattle.utf8.specs.Inner.{Begins};
-
-// What begins at an index: the code point, how many bytes it takes, and 1 if they are an ill-formed
-// subpart, which reads as FFFD. After the end all three are 0.
-pub struct Taken {
-    pub code: u32,
-    pub size: usize,
-    pub ill: usize,
-}
 
 // The byte at an index, or 0 after the end. No sequence goes on with 0, so the end of the text and
 // a wrong byte are one case.

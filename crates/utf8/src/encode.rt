@@ -1,9 +1,9 @@
 // Encoding: how many bytes a code point takes, and these bytes in a buffer (table 3-6).
 ghost use mathlib.Core.Path.{_≡_};
 ghost use lib.ListN.{length};
-ghost use Rattle.utf8.specs.Utf8.{bytesOf, fitting};
+ghost use Rattle.utf8.specs.Utf8.{bytesOf, codeBytes};
 ghost use Prim.Native.Nat.{_≤_, _<_};
-ghost use Rattle.laws.specs.Writing.{Room, Wrote};
+ghost use Rattle.laws.specs.Writing.{Room, fitted, Wrote};
 
 // How many bytes a code point takes.
 pub fn size_of(code: u32) -> usize
@@ -83,7 +83,7 @@ fn put(code: u32, out: &mut [u8], at: usize) -> usize
 // The same for every number and every index: writes nothing if there is no room for all the bytes,
 // or if the number is over 10FFFF.
 pub fn put_at(code: u32, out: &mut [u8], at: usize) -> usize
-    ensures { λ r. ⌜ Wrote (now (out .entry)) at (fitting code (now (out .entry)) at) r (now (out .exit)) ⌝ }
+    ensures { λ r. ⌜ Wrote (now (out .entry)) at (fitted (codeBytes code) (now (out .entry)) at) r (now (out .exit)) ⌝ }
 {
     if out.len() <= at {
         return at;

@@ -3,6 +3,8 @@
 use answers::Checked;
 use answers::Filled;
 use answers::Refusal;
+use encodings::Counted;
+use encodings::Read;
 ghost use mathlib.Core.Path.{_≡_};
 ghost use Prim.Native.Nat.{_≤_};
 ghost use lib.ListN.{length};
@@ -11,18 +13,6 @@ ghost use Rattle.utf8.specs.Utf8.{readText, writeText};
 ghost use Rattle.utf8.specs.Reading.{ReadFronts, Reads};
 ghost use Rattle.laws.specs.Writing.{Fronts};
 ghost use Rattle.answers.specs.Answers.{Makes};
-
-// The answer of a call that reads bytes: what was counted, or why not.
-pub enum Read {
-    Done(Counted),
-    Refused(Refusal),
-}
-
-// How long what was made of bytes is, and how many ill-formed subparts the bytes have.
-pub struct Counted {
-    pub length: usize,
-    pub ills: usize,
-}
 
 // How many code points a text reads as.
 fn read_count(text: &[u8]) -> usize

@@ -3,10 +3,10 @@
 use crate::operand;
 use crate::put;
 use answers::Filled;
+use encodings::Read;
 use letters::Parts;
 use letters::Stepped;
 use names::Named;
-use utf8::Read;
 
 // No name of a syllable is longer.
 const NAME: usize = 23;

@@ -1,4 +1,4 @@
--- `calls::read_elements` is safe: the part that is read into is as long as it says.
+-- `calls::read_elements` is safe: the parts that are lent on are as long as they say.
 use mathlib.Core.Path.{sym}
 use native.Mathlib.Omega.{arith}
 use lib.Seq.{length-take-le}
@@ -6,17 +6,8 @@ use borrow.Author.Needs.{needs}
 use Rattle.calls.proofs.read_elements.Statement.{statement}
 use Rattle.calls.proofs.read_elements.Tie as tie
 
-returns : tie.Need-returns
-returns c = search needs
-
-size-requires : tie.Need-size-requires
-size-requires c κs = search needs
-
 at-most-requires : tie.Need-at-most-requires
 at-most-requires c κs = search needs
-
-returns-2 : tie.Need-returns-2
-returns-2 c = search needs
 
 slice-relend-prefix-read-full : tie.Need-slice-relend-prefix-read-full
 slice-relend-prefix-read-full c = search needs
@@ -30,19 +21,44 @@ read-full-requires c κs = search needs
 same-length : tie.Need-same-length
 same-length c = search needs
 
-returns-3 : tie.Need-returns-3
-returns-3 c = search needs
+returns : tie.Need-returns
+returns c = search needs
+
+at-most-requires-2 : tie.Need-at-most-requires-2
+at-most-requires-2 c κs = search needs
+
+slice-relend-prefix-read-numbers : tie.Need-slice-relend-prefix-read-numbers
+slice-relend-prefix-read-numbers c = search needs
+
+slice-aggregate-read-numbers : tie.Need-slice-aggregate-read-numbers
+slice-aggregate-read-numbers c = sym (length-take-le _ _ (omega arith))
+
+read-numbers-requires : tie.Need-read-numbers-requires
+read-numbers-requires c κs = search needs
+
+same-length-2 : tie.Need-same-length-2
+same-length-2 c = search needs
+
+same-length-3 : tie.Need-same-length-3
+same-length-3 c = search needs
+
+returns-2 : tie.Need-returns-2
+returns-2 c = search needs
 
 pub read-elements-spec : {M : Type 1} → statement M
 read-elements-spec =
     tie.close
     (tie.spec
-    returns
-    size-requires
     at-most-requires
-    returns-2
     slice-relend-prefix-read-full
     slice-aggregate-read-full
     read-full-requires
     same-length
-    returns-3)
+    returns
+    at-most-requires-2
+    slice-relend-prefix-read-numbers
+    slice-aggregate-read-numbers
+    read-numbers-requires
+    same-length-2
+    same-length-3
+    returns-2)

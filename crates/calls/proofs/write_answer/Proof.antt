@@ -6,26 +6,32 @@ use borrow.Author.Needs.{needs}
 use Rattle.calls.proofs.write_answer.Statement.{statement}
 use Rattle.calls.proofs.write_answer.Tie as tie
 
-room-requires : tie.Need-room-requires
-room-requires c κs = search needs
-
 at-most-requires : tie.Need-at-most-requires
 at-most-requires c κs = search needs
 
-put-requires : tie.Need-put-requires
-put-requires c κs = search needs
+at-most-requires-2 : tie.Need-at-most-requires-2
+at-most-requires-2 c κs = search needs
+
+at-most-requires-3 : tie.Need-at-most-requires-3
+at-most-requires-3 c κs = search needs
 
 slice-aggregate-put-numbers : tie.Need-slice-aggregate-put-numbers
-slice-aggregate-put-numbers c = sym (length-take-le _ _ (omega arith))
+slice-aggregate-put-numbers c = sym (length-take-le _ _ (c .before .before .before .at-most .ensures .1 .0))
+
+sub-put-numbers : tie.Need-sub-put-numbers
+sub-put-numbers c = search needs
+
+part-put-numbers-start : tie.Need-part-put-numbers-start
+part-put-numbers-start c = search needs
+
+part-put-numbers-end : tie.Need-part-put-numbers-end
+part-put-numbers-end c = search needs
 
 put-numbers-requires : tie.Need-put-numbers-requires
 put-numbers-requires c κs = search needs
 
-end-requires : tie.Need-end-requires
-end-requires c κs = search needs
-
-at-most-requires-2 : tie.Need-at-most-requires-2
-at-most-requires-2 c κs = search needs
+put-reply-requires : tie.Need-put-reply-requires
+put-reply-requires c κs = search needs
 
 slice-reshare-prefix-write-all : tie.Need-slice-reshare-prefix-write-all
 slice-reshare-prefix-write-all c = search needs
@@ -46,13 +52,15 @@ pub write-answer-spec : {M : Type 1} → statement M
 write-answer-spec =
     tie.close
     (tie.spec
-    room-requires
     at-most-requires
-    put-requires
-    slice-aggregate-put-numbers
-    put-numbers-requires
-    end-requires
     at-most-requires-2
+    at-most-requires-3
+    slice-aggregate-put-numbers
+    sub-put-numbers
+    part-put-numbers-start
+    part-put-numbers-end
+    put-numbers-requires
+    put-reply-requires
     slice-reshare-prefix-write-all
     slice-aggregate-write-all
     write-all-requires

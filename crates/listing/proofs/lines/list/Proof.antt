@@ -2,7 +2,7 @@
 -- refuses 3 or writes.
 use Rattle.answers.proofs.Verdicts.{checks-passed}
 use Rattle.listing.proofs.Calls.{lists-refused, lists-lacking, lists-done}
-use Rattle.answers.proofs.Checks.{bytes-short, lacking-room}
+use Rattle.answers.proofs.Checks.{units-short, lacking-room}
 use borrow.Author.Needs.{needs}
 use Rattle.listing.proofs.lines.list.Statement.{statement}
 use Rattle.listing.proofs.lines.list.Tie as tie
@@ -17,7 +17,7 @@ enum-told : tie.Need-enum-told
 enum-told c = search needs
 
 list-lacking-requires : tie.Need-list-lacking-requires
-list-lacking-requires c κs = bytes-short _ (checks-passed (c .before .before .check-bytes .ensures) (c .enum-told .given .1))
+list-lacking-requires c κs = units-short _ (checks-passed (c .before .before .check-bytes .ensures) (c .enum-told .given .1))
 
 returns : tie.Need-returns
 returns c =
@@ -28,7 +28,7 @@ returns c =
 list-into-requires : tie.Need-list-into-requires
 list-into-requires c κs =
     let passed = c .before .before .before in (
-      bytes-short _ (checks-passed (passed .before .before .check-bytes .ensures) (passed .enum-told .given .1)),
+      units-short _ (checks-passed (passed .before .before .check-bytes .ensures) (passed .enum-told .given .1)),
       lacking-room _ _ (c .before .before .list-lacking .ensures) (c .before .if1 .left),
     )
 

@@ -4,8 +4,9 @@ use Prim.Native.Nat.{_-_}
 use native.Mathlib.Omega.{arith}
 use lib.ListN.{length}
 use Rattle.laws.proofs.Filling.{filling-length}
-use Rattle.mending.proofs.Characters.{character-next}
 use Rattle.listing.proofs.Turns.{Writing, writing-none, line-room, writing-more, writing-all}
+use Rattle.utf8.proofs.Round.{encodes8}
+use Rattle.mending.proofs.Characters.{character-next}
 use borrow.Author.Needs.{needs}
 use Rattle.listing.proofs.lines.list_into.Statement.{statement}
 use Rattle.listing.proofs.lines.list_into.Tie as tie
@@ -26,24 +27,24 @@ put-line-requires : tie.Need-put-line-requires Inv-loop μ-loop
 put-line-requires c κs =
     let turn = c .before in
     line-room _ (turn .before .before .loop .inv) (turn .before .before .before .before .before .pre .1)
-    (character-next _ _ (turn .before .loop-test .taken) (turn .character-at .ensures))
+    (character-next encodes8 _ _ (turn .before .loop-test .taken) (turn .character-at .ensures))
 
 add-read : tie.Need-add-read Inv-loop μ-loop
 add-read c =
     let turn = c .before .before .before .before .before in
-    omega (arith, character-next _ _ (turn .before .loop-test .taken) (turn .character-at .ensures) .goes .inside)
+    omega (arith, character-next encodes8 _ _ (turn .before .loop-test .taken) (turn .character-at .ensures) .goes .inside)
 
 loop-less : tie.Need-loop-less Inv-loop μ-loop
 loop-less c =
     let turn = c .before .before .before .before .before in
-    let character = character-next _ _ (turn .before .loop-test .taken) (turn .character-at .ensures) in
+    let character = character-next encodes8 _ _ (turn .before .loop-test .taken) (turn .character-at .ensures) in
     omega (arith, character .goes .inside, character .more)
 
 loop-again : tie.Need-loop-again Inv-loop μ-loop
 loop-again c =
     let turn = c .before .before .before .before .before in
     writing-more _ (turn .before .before .loop .inv) (turn .before .before .before .before .before .pre .1)
-    (character-next _ _ (turn .before .loop-test .taken) (turn .character-at .ensures)) (c .before .before .before .put-line .ensures)
+    (character-next encodes8 _ _ (turn .before .loop-test .taken) (turn .character-at .ensures)) (c .before .before .before .put-line .ensures)
 
 same-length : tie.Need-same-length Inv-loop μ-loop
 same-length c = filling-length (c .before .before .before .before .pre .1) (c .before .loop .inv .filling)

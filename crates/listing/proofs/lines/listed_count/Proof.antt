@@ -4,8 +4,9 @@ use mathlib.Core.Path.{refl}
 use Prim.Native.Nat.{_-_}
 use native.Mathlib.Omega.{arith}
 use lib.ListN.{length as lengthOf}
-use Rattle.mending.proofs.Characters.{character-next}
 use Rattle.listing.proofs.Turns.{Tallying, tallying-none, place-room, tallying-fits, tallying-more, tallying-all}
+use Rattle.utf8.proofs.Round.{encodes8}
+use Rattle.mending.proofs.Characters.{character-next}
 use borrow.Author.Needs.{needs}
 use Rattle.listing.proofs.lines.listed_count.Statement.{statement}
 use Rattle.listing.proofs.lines.listed_count.Tie as tie
@@ -33,25 +34,25 @@ add-length c =
     let turn = c .before .before .before in
     omega (
       arith,
-      tallying-fits _ (turn .before .before .loop .inv) (character-next _ _ (turn .before .loop-test .taken) (turn .character-at .ensures))
+      tallying-fits _ (turn .before .before .loop .inv) (character-next encodes8 _ _ (turn .before .loop-test .taken) (turn .character-at .ensures))
           (c .before .put-line .ensures) (turn .before .before .before .before .pre),
     )
 
 add-read : tie.Need-add-read Inv-loop μ-loop
 add-read c =
     let turn = c .before .before .before .before in
-    omega (arith, character-next _ _ (turn .before .loop-test .taken) (turn .character-at .ensures) .goes .inside)
+    omega (arith, character-next encodes8 _ _ (turn .before .loop-test .taken) (turn .character-at .ensures) .goes .inside)
 
 loop-less : tie.Need-loop-less Inv-loop μ-loop
 loop-less c =
     let turn = c .before .before .before .before in
-    let character = character-next _ _ (turn .before .loop-test .taken) (turn .character-at .ensures) in
+    let character = character-next encodes8 _ _ (turn .before .loop-test .taken) (turn .character-at .ensures) in
     omega (arith, character .goes .inside, character .more)
 
 loop-again : tie.Need-loop-again Inv-loop μ-loop
 loop-again c =
     let turn = c .before .before .before .before in
-    tallying-more _ (turn .before .before .loop .inv) (character-next _ _ (turn .before .loop-test .taken) (turn .character-at .ensures))
+    tallying-more _ (turn .before .before .loop .inv) (character-next encodes8 _ _ (turn .before .loop-test .taken) (turn .character-at .ensures))
     (c .before .before .put-line .ensures)
 
 returns : tie.Need-returns Inv-loop μ-loop

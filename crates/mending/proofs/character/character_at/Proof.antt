@@ -1,8 +1,8 @@
 -- `mending::character::character_at` meets its contract: what begins at the index, with nothing,
 -- one piece or two taken in.
-use Rattle.mending.proofs.Characters.{first-inside, first-all, second-inside, second-all, third-all}
-use Rattle.utf8.proofs.Takes.{test-true, test-false}
-use mathlib.Core.Path.{sym}
+use Rattle.encodings.proofs.Taking.{test-true, test-false}
+use Rattle.utf8.specs.Utf8.{form8}
+use Rattle.mending.proofs.Characters.{one-inside, character-of-one, two-inside, character-of-two, character-of-three}
 use borrow.Author.Needs.{needs}
 use Rattle.mending.proofs.character.character_at.Statement.{statement}
 use Rattle.mending.proofs.character.character_at.Tie as tie
@@ -15,12 +15,12 @@ goes-on-requires c κs = search needs
 
 returns : tie.Need-returns
 returns c =
-    first-all (c .before .before .before .before .args .text .now) (c .before .before .before .before .args .at)
+    character-of-one form8 (c .before .before .before .before .args .text .now) (c .before .before .before .before .args .at)
     (c .before .before .read-at .ensures) (test-false (c .before .goes-on .ensures) (c .if1 .taken))
 
 grow-requires : tie.Need-grow-requires
 grow-requires c κs =
-    first-inside (c .before .before .before .before .args .text .now) (c .before .before .before .before .args .at)
+    one-inside form8 (c .before .before .before .before .args .text .now) (c .before .before .before .before .args .at)
     (c .before .before .read-at .ensures) (test-true (c .before .goes-on .ensures) (c .if1 .left))
 
 goes-on-requires-2 : tie.Need-goes-on-requires-2
@@ -28,19 +28,19 @@ goes-on-requires-2 c κs = search needs
 
 returns-2 : tie.Need-returns-2
 returns-2 c =
-    second-all (c .before .before .before .before .before .before .before .args .text .now)
+    character-of-two form8 (c .before .before .before .before .before .before .before .args .text .now)
     (c .before .before .before .before .before .before .before .args .at) (c .before .before .before .before .before .read-at .ensures)
     (c .before .before .grow .ensures) (test-false (c .before .goes-on2 .ensures) (c .if2 .taken))
 
 grow-requires-2 : tie.Need-grow-requires-2
 grow-requires-2 c κs =
-    second-inside (c .before .before .before .before .before .before .before .args .text .now)
+    two-inside form8 (c .before .before .before .before .before .before .before .args .text .now)
     (c .before .before .before .before .before .before .before .args .at) (c .before .before .before .before .before .read-at .ensures)
     (c .before .before .grow .ensures) (test-true (c .before .before .before .before .goes-on .ensures) (c .before .before .before .if1 .left))
 
 returns-3 : tie.Need-returns-3
 returns-3 c =
-    third-all (c .before .before .before .before .before .before .before .before .args .text .now)
+    character-of-three form8 (c .before .before .before .before .before .before .before .before .args .text .now)
     (c .before .before .before .before .before .before .before .before .args .at)
     (c .before .before .before .before .before .before .read-at .ensures) (c .before .before .before .grow .ensures) (c .grow2 .ensures)
 

@@ -1,12 +1,12 @@
 -- `mending::character::grow` meets its contract: what begins after the character does not join with
 -- it, or is taken in.
 use Rattle.utf8.specs.Table37.{kindOf}
-use Rattle.laws.specs.Pieces.{pieces}
+use Rattle.encodings.specs.Pieces.{pieces}
 use lib.ListN.{drop}
 use Prim.Native.Nat.{_+_}
-use Rattle.mending.proofs.Characters.{once-none, once-some, next-inside}
-use native.Mathlib.Omega.{arith}
 use mathlib.Core.Path.{sym, _∙_}
+use Rattle.utf8.specs.Utf8.{form8}
+use Rattle.mending.proofs.Characters.{grown-once-stays, grown-once-takes, taken-inside}
 use borrow.Author.Needs.{needs}
 use Rattle.mending.proofs.character.grow.Statement.{statement}
 use Rattle.mending.proofs.character.grow.Tie as tie
@@ -22,15 +22,15 @@ joined-requires c κs = search needs
 
 returns : tie.Need-returns
 returns c =
-    once-none _ (pieces kindOf (drop (c .before .before .before .before .args .at + c .before .before .before .before .args .taken .size)
+    grown-once-stays form8 _ (pieces kindOf (drop (c .before .before .before .before .args .at + c .before .before .before .before .args .taken .size)
     (c .before .before .before .before .args .text .now))) (c .before .before .read-at .ensures) (sym (c .before .joined .ensures) ∙ c .if1 .taken)
 
 add-t7 : tie.Need-add-t7
-add-t7 c = search (needs, next-inside _ _ (c .before .before .before .read-at .ensures) (c .before .before .before .before .before .pre))
+add-t7 c = search (needs, taken-inside form8 _ _ (c .before .before .before .read-at .ensures) (c .before .before .before .before .before .pre))
 
 returns-2 : tie.Need-returns-2
 returns-2 c =
-    once-some _ (pieces kindOf (drop
+    grown-once-takes form8 _ (pieces kindOf (drop
     (c .before .before .before .before .before .args .at + c .before .before .before .before .before .args .taken .size)
     (c .before .before .before .before .before .args .text .now))) (c .before .before .before .read-at .ensures)
     (c .before .before .joined .ensures) (c .before .if1 .left)

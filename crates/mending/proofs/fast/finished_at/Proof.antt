@@ -1,5 +1,5 @@
 -- `mending::fast::finished_at` meets its contract: three bytes that pass are a character.
-use Rattle.utf8.specs.Reading.{goodOf}
+use Rattle.encodings.specs.Reading.{goodOf}
 use mathlib.Core.Path.{_∙_, ap}
 use native.Mathlib.Omega.{arith}
 use borrow.Author.Tests.{not-false}

@@ -1,8 +1,8 @@
 -- `mending::length::count_advance` meets its contract: what is spelled in letters is the character
 -- at the index, or one turn is left to `count_pass`.
+use Rattle.utf8.proofs.Round.{encodes8}
 use Rattle.mending.proofs.Turns.{count-fits, count-character}
 use Rattle.mending.proofs.Characters.{character-next}
-use native.Mathlib.Omega.{arith}
 use borrow.Author.Needs.{needs}
 use Rattle.mending.proofs.length.count_advance.Statement.{statement}
 use Rattle.mending.proofs.length.count_advance.Tie as tie
@@ -19,11 +19,11 @@ returns c = c .count-pass .ensures
 count-place-requires : tie.Need-count-place-requires
 count-place-requires c κs =
     count-fits (c .before .before .before .before .pre)
-    (character-next _ _ (c .before .before .before .before .pre .inside) (c .before .before .spelled-at .ensures .0 (c .if1 .left)))
+    (character-next encodes8 _ _ (c .before .before .before .before .pre .inside) (c .before .before .spelled-at .ensures .0 (c .if1 .left)))
 
 returns-2 : tie.Need-returns-2
 returns-2 c =
-    count-character (character-next _ _ (c .before .before .before .before .before .pre .inside)
+    count-character (character-next encodes8 _ _ (c .before .before .before .before .before .pre .inside)
     (c .before .before .before .spelled-at .ensures .0 (c .before .if1 .left))) (c .count-place .ensures)
 
 pub count-advance-spec : {M : Type 1} → statement M

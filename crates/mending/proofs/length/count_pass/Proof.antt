@@ -1,8 +1,9 @@
 -- `mending::length::count_pass` meets its contract: where nothing passes a character is counted,
 -- else what passes.
+use native.Mathlib.Omega.{arith}
+use Rattle.utf8.proofs.Round.{encodes8}
 use Rattle.mending.proofs.Turns.{count-fits, count-character, passes-count, count-passes}
 use Rattle.mending.proofs.Characters.{character-next}
-use native.Mathlib.Omega.{arith}
 use borrow.Author.Needs.{needs}
 use Rattle.mending.proofs.length.count_pass.Statement.{statement}
 use Rattle.mending.proofs.length.count_pass.Tie as tie
@@ -16,11 +17,11 @@ character-at-requires c κs = search needs
 count-place-requires : tie.Need-count-place-requires
 count-place-requires c κs =
     count-fits (c .before .before .before .before .pre)
-    (character-next _ _ (c .before .before .before .before .pre .inside) (c .character-at .ensures))
+    (character-next encodes8 _ _ (c .before .before .before .before .pre .inside) (c .character-at .ensures))
 
 returns : tie.Need-returns
 returns c =
-    count-character (character-next _ _ (c .before .before .before .before .before .pre .inside) (c .before .character-at .ensures))
+    count-character (character-next encodes8 _ _ (c .before .before .before .before .before .pre .inside) (c .before .character-at .ensures))
     (c .count-place .ensures)
 
 sub-t7 : tie.Need-sub-t7

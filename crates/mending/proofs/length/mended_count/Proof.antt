@@ -1,16 +1,16 @@
 -- `mending::length::mended_count` meets its contract: the loop's invariant is that what is counted
 -- and what is left make up the mended text.
-use Rattle.mending.proofs.Turns.{Tallying, tallying-none, tallying-ready, tallying-more, tallying-all}
-use Rattle.mending.proofs.Bound.{mended-most}
 use lib.ListN.{length}
 use native.Mathlib.Omega.{arith}
 use Prim.Native.Nat.{_-_}
-use borrow.Author.Needs.{needs}
+use Rattle.utf8.specs.Utf8.{form8}
+use Rattle.mending.proofs.Turns.{Tallying, tallying-none, tallying-ready, tallying-more, tallying-all}
+use Rattle.mending.proofs.Bound.{mended-most}
 use Rattle.mending.proofs.length.mended_count.Statement.{statement}
 use Rattle.mending.proofs.length.mended_count.Tie as tie
 
 abbrev Inv-loop : tie.InvT-loop
-Inv-loop text s₀ s = Tallying text s
+Inv-loop text s₀ s = Tallying form8 text s
 
 abbrev μ-loop : tie.MeasureT-loop
 μ-loop text s₀ s = length text - s .read

@@ -1,9 +1,9 @@
 -- `mending::lone::ill_size` meets its contract: none is found, or a byte that begins nothing, or a
 -- second or third byte that continues nothing.
-use Rattle.utf8.proofs.Takes.{test-true, test-false}
 use Rattle.mending.proofs.Alone.{stray-character, second-character, third-character}
 use mathlib.Core.Path.{refl}
 use native.Mathlib.Omega.{arith}
+use Rattle.encodings.proofs.Taking.{test-true, test-false}
 use borrow.Author.Needs.{needs}
 use Rattle.mending.proofs.lone.ill_size.Statement.{statement}
 use Rattle.mending.proofs.lone.ill_size.Tie as tie

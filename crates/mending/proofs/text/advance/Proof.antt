@@ -1,8 +1,8 @@
 -- `mending::text::advance` meets its contract: what is spelled in letters is the character at the
 -- index, or one turn is left to `pass`.
+use Rattle.utf8.proofs.Round.{encodes8}
 use Rattle.mending.proofs.Turns.{character-fits, character-moved}
 use Rattle.mending.proofs.Characters.{character-next}
-use native.Mathlib.Omega.{arith}
 use borrow.Author.Needs.{needs}
 use Rattle.mending.proofs.text.advance.Statement.{statement}
 use Rattle.mending.proofs.text.advance.Tie as tie
@@ -21,8 +21,8 @@ returns c = c .before .before .pass .ensures
 
 set-requires : tie.Need-set-requires
 set-requires c κs = (
-  character-fits (c .before .before .before .before .before .before .pre)
-      (character-next _ _ (c .before .before .before .before .before .before .pre .inside)
+  character-fits encodes8 (c .before .before .before .before .before .before .pre)
+      (character-next encodes8 _ _ (c .before .before .before .before .before .before .pre .inside)
       (c .before .before .before .spelled-at .ensures .0 (c .before .if1 .left))),
   c .before .before .before .spelled-at .ensures .1 (c .before .if1 .left),
 )
@@ -32,7 +32,7 @@ same-length-2 c = search needs
 
 returns-2 : tie.Need-returns-2
 returns-2 c =
-    character-moved (character-next _ _ (c .before .before .before .before .before .before .before .before .before .pre .inside)
+    character-moved (character-next encodes8 _ _ (c .before .before .before .before .before .before .before .before .before .pre .inside)
     (c .before .before .before .before .before .before .spelled-at .ensures .0 (c .before .before .before .before .if1 .left)))
     (c .before .before .set .ensures)
 

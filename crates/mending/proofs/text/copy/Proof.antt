@@ -1,10 +1,8 @@
 -- `mending::text::copy` meets its contract: the bytes read so far are those written, one after the
 -- other.
-use Rattle.mending.proofs.Turns.{Copying, copying-none, copying-index, copying-length, copying-more, copying-all}
-use lib.ListN.{length}
 use native.Mathlib.Omega.{arith}
 use Prim.Native.Nat.{_≤_, _-_}
-use mathlib.Core.Path.{_≡_}
+use Rattle.mending.proofs.Turns.{Copying, copying-none, copying-index, copying-length, copying-more, copying-all}
 use borrow.Author.Needs.{needs}
 use Rattle.mending.proofs.text.copy.Statement.{statement}
 use Rattle.mending.proofs.text.copy.Tie as tie

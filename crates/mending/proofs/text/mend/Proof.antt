@@ -1,8 +1,8 @@
 -- `mending::text::mend` meets its contract: the check refuses, or it finds what is lacking, and
 -- refuses 3 or writes.
-use Rattle.utf8.proofs.Reading.{reads-refused, reads-lacking, reads-done}
 use Rattle.answers.proofs.Verdicts.{checks-passed}
-use Rattle.answers.proofs.Checks.{bytes-short, lacking-room}
+use Rattle.answers.proofs.Checks.{units-short, lacking-room}
+use Rattle.encodings.proofs.Reading.{reads-refused, reads-lacking, reads-done}
 use borrow.Author.Needs.{needs}
 use Rattle.mending.proofs.text.mend.Statement.{statement}
 use Rattle.mending.proofs.text.mend.Tie as tie
@@ -17,7 +17,7 @@ enum-told : tie.Need-enum-told
 enum-told c = search needs
 
 mend-lacking-requires : tie.Need-mend-lacking-requires
-mend-lacking-requires c κs = bytes-short _ (checks-passed (c .before .before .check-bytes .ensures) (c .enum-told .given .1))
+mend-lacking-requires c κs = units-short _ (checks-passed (c .before .before .check-bytes .ensures) (c .enum-told .given .1))
 
 returns : tie.Need-returns
 returns c =
@@ -28,7 +28,7 @@ returns c =
 mend-into-requires : tie.Need-mend-into-requires
 mend-into-requires c κs =
     let passed = c .before .before .before in (
-      bytes-short _ (checks-passed (passed .before .before .check-bytes .ensures) (passed .enum-told .given .1)),
+      units-short _ (checks-passed (passed .before .before .check-bytes .ensures) (passed .enum-told .given .1)),
       lacking-room _ _ (c .before .before .mend-lacking .ensures) (c .before .if1 .left),
     )
 

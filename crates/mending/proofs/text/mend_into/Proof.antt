@@ -1,16 +1,16 @@
 -- `mending::text::mend_into` meets its contract: the loop's invariant: what is written and what is
 -- left to be read make up the mended text.
-use Rattle.mending.proofs.Turns.{Writing, writing-none, writing-ready, writing-more, writing-all}
 use Rattle.laws.proofs.Filling.{filling-length}
 use lib.ListN.{length}
 use native.Mathlib.Omega.{arith}
 use Prim.Native.Nat.{_-_}
-use borrow.Author.Needs.{needs}
+use Rattle.utf8.specs.Utf8.{form8}
+use Rattle.mending.proofs.Turns.{Writing, writing-none, writing-ready, writing-more, writing-all}
 use Rattle.mending.proofs.text.mend_into.Statement.{statement}
 use Rattle.mending.proofs.text.mend_into.Tie as tie
 
 abbrev Inv-loop : tie.InvT-loop
-Inv-loop text out₀ s₀ out s = Writing text out₀ out s
+Inv-loop text out₀ s₀ out s = Writing form8 text out₀ out s
 
 abbrev μ-loop : tie.MeasureT-loop
 μ-loop text out₀ s₀ out s = length text - s .read

@@ -1,8 +1,8 @@
 -- `mending::text::mend_lacking` meets its contract: three for each byte do, or the length is
 -- counted.
-use Rattle.mending.proofs.Bound.{mended-most}
 use Rattle.answers.proofs.Checks.{lacking-none, lacking-counted}
 use native.Mathlib.Omega.{arith}
+use Rattle.mending.proofs.Bound.{mended-most}
 use borrow.Author.Needs.{needs}
 use Rattle.mending.proofs.text.mend_lacking.Statement.{statement}
 use Rattle.mending.proofs.text.mend_lacking.Tie as tie

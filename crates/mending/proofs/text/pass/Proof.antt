@@ -1,7 +1,7 @@
 -- `mending::text::pass` meets its contract: where nothing passes one character is left to `make`,
 -- else what passes is copied.
-use Rattle.mending.proofs.Turns.{passes-room, passes-moved}
 use native.Mathlib.Omega.{arith}
+use Rattle.mending.proofs.Turns.{passes-room, passes-moved}
 use borrow.Author.Needs.{needs}
 use Rattle.mending.proofs.text.pass.Statement.{statement}
 use Rattle.mending.proofs.text.pass.Tie as tie

@@ -1,10 +1,10 @@
 -- `mending::text::set` meets its contract: the character has room, and its three bytes are stored
 -- one after the other.
-use Rattle.mending.proofs.Turns.{wrote-placed}
 use Rattle.utf8.proofs.Writing.{bytes-three}
 use Rattle.laws.proofs.Filling.{wrote-three, room-all}
 use lib.ListN.{length-set}
 use native.Mathlib.Omega.{arith}
+use Rattle.mending.proofs.Turns.{wrote-placed}
 use borrow.Author.Needs.{needs}
 use Rattle.mending.proofs.text.set.Statement.{statement}
 use Rattle.mending.proofs.text.set.Tie as tie

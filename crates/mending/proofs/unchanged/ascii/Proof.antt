@@ -1,6 +1,6 @@
 -- `mending::unchanged::ascii` meets its contract: nothing, or what passes byte by byte after what
 -- passes eight bytes at once.
-use Rattle.mending.proofs.Passes.{passes-none, passes-on}
+use Rattle.mending.proofs.Turns.{passes-none, passes-on}
 use borrow.Author.Needs.{needs}
 use Rattle.mending.proofs.unchanged.ascii.Statement.{statement}
 use Rattle.mending.proofs.unchanged.ascii.Tie as tie

@@ -5,7 +5,8 @@ use Prim.Native.Nat.{_-_}
 use lib.ListN.{length}
 use borrow.Author.Tests.{not-false}
 use Rattle.mending.specs.Inner.{Passes}
-use Rattle.mending.proofs.Passes.{passes-none, passes-on, low-eight}
+use Rattle.mending.proofs.Passes.{low-eight}
+use Rattle.mending.proofs.Turns.{passes-none, passes-on}
 use borrow.Author.Needs.{needs}
 use Rattle.mending.proofs.unchanged.eights.Statement.{statement}
 use Rattle.mending.proofs.unchanged.eights.Tie as tie

@@ -1,8 +1,9 @@
 -- `mending::unchanged::last_three` meets its contract: no three bytes are left, or they are no such
 -- character, or nothing stands after them.
-use Rattle.mending.proofs.Passes.{passes-none, three-last}
+use Rattle.mending.proofs.Passes.{three-last}
 use borrow.Author.Tests.{not-false}
 use native.Mathlib.Omega.{arith}
+use Rattle.mending.proofs.Turns.{passes-none}
 use borrow.Author.Needs.{needs}
 use Rattle.mending.proofs.unchanged.last_three.Statement.{statement}
 use Rattle.mending.proofs.unchanged.last_three.Tie as tie

@@ -3,7 +3,8 @@
 use Prim.Native.Nat.{_-_}
 use lib.ListN.{length}
 use Rattle.mending.specs.Inner.{Passes}
-use Rattle.mending.proofs.Passes.{passes-none, passes-on, low-passes}
+use Rattle.mending.proofs.Passes.{low-passes}
+use Rattle.mending.proofs.Turns.{passes-none, passes-on}
 use borrow.Author.Needs.{needs}
 use Rattle.mending.proofs.unchanged.ones.Statement.{statement}
 use Rattle.mending.proofs.unchanged.ones.Tie as tie

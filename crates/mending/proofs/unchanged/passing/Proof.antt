@@ -1,10 +1,10 @@
 -- `mending::unchanged::passing` meets its contract. The loop's invariant: what lies between the
 -- start and the index passes.
-use Rattle.mending.proofs.Passes.{passes-none, passes-on}
 use Rattle.mending.specs.Inner.{Passes}
 use lib.ListN.{length}
 use Prim.Native.Nat.{_-_}
 use native.Mathlib.Omega.{arith}
+use Rattle.mending.proofs.Turns.{passes-none, passes-on}
 use borrow.Author.Needs.{needs}
 use Rattle.mending.proofs.unchanged.passing.Statement.{statement}
 use Rattle.mending.proofs.unchanged.passing.Tie as tie

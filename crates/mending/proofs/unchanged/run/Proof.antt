@@ -1,5 +1,5 @@
 -- `mending::unchanged::run` meets its contract: what passes after what passes, passes with it.
-use Rattle.mending.proofs.Passes.{passes-none, passes-on}
+use Rattle.mending.proofs.Turns.{passes-none, passes-on}
 use borrow.Author.Needs.{needs}
 use Rattle.mending.proofs.unchanged.run.Statement.{statement}
 use Rattle.mending.proofs.unchanged.run.Tie as tie

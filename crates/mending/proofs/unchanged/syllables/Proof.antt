@@ -1,6 +1,6 @@
 -- `mending::unchanged::syllables` meets its contract: the text has ended, or the last three bytes
 -- pass after what passes before them.
-use Rattle.mending.proofs.Passes.{passes-none, passes-on}
+use Rattle.mending.proofs.Turns.{passes-none, passes-on}
 use borrow.Author.Needs.{needs}
 use Rattle.mending.proofs.unchanged.syllables.Statement.{statement}
 use Rattle.mending.proofs.unchanged.syllables.Tie as tie

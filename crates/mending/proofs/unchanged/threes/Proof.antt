@@ -1,13 +1,14 @@
 -- `mending::unchanged::threes` meets its contract. The loop's invariant: what lies between the
 -- start and the index passes.
-use Rattle.mending.proofs.Passes.{passes-none, passes-on, lead-three, three-passes}
+use Rattle.mending.proofs.Passes.{lead-three, three-passes}
 use Rattle.mending.specs.Inner.{Passes}
-use Rattle.utf8.proofs.Takes.{test-true}
 use borrow.Author.Tests.{not-false}
 use lib.ListN.{length}
 use Prim.Native.Nat.{_-_}
 use native.Mathlib.Omega.{arith}
 use mathlib.Core.Path.{refl}
+use Rattle.encodings.proofs.Taking.{test-true}
+use Rattle.mending.proofs.Turns.{passes-none, passes-on}
 use borrow.Author.Needs.{needs}
 use Rattle.mending.proofs.unchanged.threes.Statement.{statement}
 use Rattle.mending.proofs.unchanged.threes.Tie as tie

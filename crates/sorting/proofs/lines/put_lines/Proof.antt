@@ -1,6 +1,6 @@
 -- `sorting::lines::put_lines` meets its contract. The loop's invariant: what is written and what is
 -- left make up all lines.
-use Rattle.sorting.proofs.Decimals.{line-piece, line-end}
+use Rattle.sorting.proofs.NumberLines.{line-piece, line-end}
 use Rattle.sorting.specs.Printing.{numberLine}
 use Rattle.laws.proofs.Filling.{Filling, filling-none, filling-length, filling-room, filling-more, filling-all}
 use Rattle.laws.specs.Lists.{each}

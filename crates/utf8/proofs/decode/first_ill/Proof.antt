@@ -3,9 +3,9 @@
 use Prim.Native.Nat.{_+_, _≤_, _-_}
 use native.Mathlib.Omega.{arith}
 use lib.ListN.{length, drop}
-use Rattle.utf8.specs.Utf8.{firstIll}
-use Rattle.utf8.proofs.Ills.{ill-next, ill-here, ill-end}
-use Rattle.utf8.proofs.Takes.{taken-next}
+use Rattle.encodings.proofs.Ills.{ill-next, ill-here, ill-end}
+use Rattle.encodings.proofs.Taking.{taken-next}
+use Rattle.utf8.specs.Utf8.{form8, firstIll}
 use mathlib.Core.Path.{_≡_}
 use borrow.Author.Needs.{needs}
 use Rattle.utf8.proofs.decode.first_ill.Statement.{statement}
@@ -24,33 +24,33 @@ read-at-requires : tie.Need-read-at-requires Inv-loop μ-loop
 read-at-requires c κs = search needs
 
 returns : tie.Need-returns Inv-loop μ-loop
-returns c = ill-here _ _ _ (c .before .before .read-at .ensures) (c .if1 .taken) (c .before .before .before .before .loop .inv .1)
+returns c = ill-here form8 _ _ _ (c .before .before .read-at .ensures) (c .if1 .taken) (c .before .before .before .before .loop .inv .1)
 
 add-at : tie.Need-add-at Inv-loop μ-loop
 add-at c =
     omega (
       arith,
-      (taken-next _ _ (c .before .before .before .before .loop-test .taken) (c .before .before .before .read-at .ensures)) .inside,
+      (taken-next form8 _ _ (c .before .before .before .before .loop-test .taken) (c .before .before .before .read-at .ensures)) .inside,
     )
 
 loop-less : tie.Need-loop-less Inv-loop μ-loop
 loop-less c =
     omega (
       arith,
-      (taken-next _ _ (c .before .before .before .before .loop-test .taken) (c .before .before .before .read-at .ensures)) .inside,
-      (taken-next _ _ (c .before .before .before .before .loop-test .taken) (c .before .before .before .read-at .ensures)) .more,
+      (taken-next form8 _ _ (c .before .before .before .before .loop-test .taken) (c .before .before .before .read-at .ensures)) .inside,
+      (taken-next form8 _ _ (c .before .before .before .before .loop-test .taken) (c .before .before .before .read-at .ensures)) .more,
       c .before .before .before .before .loop-test .taken,
     )
 
 loop-again : tie.Need-loop-again Inv-loop μ-loop
 loop-again c = (
-  (taken-next _ _ (c .before .before .before .before .loop-test .taken) (c .before .before .before .read-at .ensures)) .inside,
-  ill-next _ _ _ (c .before .before .before .read-at .ensures) (c .before .before .before .before .loop-test .taken) (c .before .if1 .left)
+  (taken-next form8 _ _ (c .before .before .before .before .loop-test .taken) (c .before .before .before .read-at .ensures)) .inside,
+  ill-next form8 _ _ _ (c .before .before .before .read-at .ensures) (c .before .before .before .before .loop-test .taken) (c .before .if1 .left)
       (c .before .before .before .before .before .loop .inv .1),
 )
 
 returns-2 : tie.Need-returns-2 Inv-loop μ-loop
-returns-2 c = ill-end _ _ _ (c .loop-test .left) (c .before .loop .inv .1)
+returns-2 c = ill-end form8 _ _ _ (c .loop-test .left) (c .before .loop .inv .1)
 
 pub first-ill-spec : {M : Type 1} → statement M
 first-ill-spec =

@@ -1,8 +1,9 @@
 -- `utf8::decode::read_four` meets its contract: the first byte out of range breaks the sequence, or
 -- it is whole.
-use Rattle.utf8.proofs.Bits.{second-least, four-bits}
-use Rattle.utf8.proofs.Takes.{test-true, test-false, begun, goes-on, broken-taken, whole-taken}
-use Rattle.utf8.specs.Reading.{goodOf}
+use Rattle.encodings.proofs.Taking.{test-true, test-false, goes-on, broken-taken, whole-taken}
+use Rattle.utf8.proofs.Rows.{begun8}
+use Rattle.utf8.proofs.Bits.{second-some, four-bits}
+use Rattle.encodings.specs.Reading.{goodOf}
 use mathlib.Core.Path.{_∙_, ap}
 use native.Mathlib.Omega.{arith}
 use borrow.Author.Needs.{needs}
@@ -23,7 +24,7 @@ ill-requires c κs = search needs
 
 returns : tie.Need-returns
 returns c =
-    broken-taken (begun (c .before .before .before .before .before .pre)) (c .before .before .before .byte-at .ensures) (omega arith)
+    broken-taken (begun8 (c .before .before .before .before .before .pre)) (c .before .before .before .byte-at .ensures) (omega arith)
     (test-false (c .before .before .is-within .ensures) (c .before .if1 .taken)) (c .ill .ensures)
 
 add-byte-at-2 : tie.Need-add-byte-at-2
@@ -40,8 +41,8 @@ ill-requires-2 c κs = search needs
 
 returns-2 : tie.Need-returns-2
 returns-2 c =
-    broken-taken (goes-on (begun (c .before .before .before .before .before .before .before .before .pre))
-    (c .before .before .before .before .before .before .byte-at .ensures) (omega arith) (second-least
+    broken-taken (goes-on (begun8 (c .before .before .before .before .before .before .before .before .pre))
+    (c .before .before .before .before .before .before .byte-at .ensures) (omega arith) (second-some
     (c .before .before .before .before .before .before .before .before .pre)) (test-true
     (c .before .before .before .before .before .is-within .ensures) (c .before .before .before .before .if1 .left)))
     (c .before .before .before .byte-at2 .ensures) (omega arith) (test-false (c .before .before .is-continuation .ensures)
@@ -61,8 +62,8 @@ ill-requires-3 c κs = search needs
 
 returns-3 : tie.Need-returns-3
 returns-3 c =
-    broken-taken (goes-on (goes-on (begun (c .before .before .before .before .before .before .before .before .before .before .before .pre))
-    (c .before .before .before .before .before .before .before .before .before .byte-at .ensures) (omega arith) (second-least
+    broken-taken (goes-on (goes-on (begun8 (c .before .before .before .before .before .before .before .before .before .before .before .pre))
+    (c .before .before .before .before .before .before .before .before .before .byte-at .ensures) (omega arith) (second-some
     (c .before .before .before .before .before .before .before .before .before .before .before .pre)) (test-true
     (c .before .before .before .before .before .before .before .before .is-within .ensures)
     (c .before .before .before .before .before .before .before .if1 .left)))
@@ -103,8 +104,8 @@ good-requires c κs = search needs
 
 returns-4 : tie.Need-returns-4
 returns-4 c =
-    whole-taken (goes-on (goes-on (begun (c .before .before .before .before .before .before .before .before .before .before .before .pre))
-    (c .before .before .before .before .before .before .before .before .before .byte-at .ensures) (omega arith) (second-least
+    whole-taken (goes-on (goes-on (begun8 (c .before .before .before .before .before .before .before .before .before .before .before .pre))
+    (c .before .before .before .before .before .before .before .before .before .byte-at .ensures) (omega arith) (second-some
     (c .before .before .before .before .before .before .before .before .before .before .before .pre)) (test-true
     (c .before .before .before .before .before .before .before .before .is-within .ensures)
     (c .before .before .before .before .before .before .before .if1 .left)))

@@ -1,8 +1,9 @@
 -- `utf8::decode::read_two` meets its contract: the second byte is out of range, or the sequence is
 -- whole.
+use Rattle.encodings.proofs.Taking.{test-true, test-false, broken-taken, whole-taken}
+use Rattle.utf8.proofs.Rows.{begun8}
 use Rattle.utf8.proofs.Bits.{two-bits}
-use Rattle.utf8.proofs.Takes.{test-true, test-false, begun, broken-taken, whole-taken}
-use Rattle.utf8.specs.Reading.{goodOf}
+use Rattle.encodings.specs.Reading.{goodOf}
 use mathlib.Core.Path.{_∙_, ap}
 use native.Mathlib.Omega.{arith}
 use borrow.Author.Needs.{needs}
@@ -23,7 +24,7 @@ ill-requires c κs = search needs
 
 returns : tie.Need-returns
 returns c =
-    broken-taken (begun (c .before .before .before .before .before .pre)) (c .before .before .before .byte-at .ensures) (omega arith)
+    broken-taken (begun8 (c .before .before .before .before .before .pre)) (c .before .before .before .byte-at .ensures) (omega arith)
     (test-false (c .before .before .is-continuation .ensures) (c .before .if1 .taken)) (c .ill .ensures)
 
 mul-good : tie.Need-mul-good
@@ -40,7 +41,7 @@ good-requires c κs = search needs
 
 returns-2 : tie.Need-returns-2
 returns-2 c =
-    whole-taken (begun (c .before .before .before .before .before .pre)) (c .before .before .before .byte-at .ensures) (omega arith)
+    whole-taken (begun8 (c .before .before .before .before .before .pre)) (c .before .before .before .byte-at .ensures) (omega arith)
     (omega arith) (test-true (c .before .before .is-continuation .ensures) (c .before .if1 .left)) (c .good2 .ensures ∙ ap (λ v. goodOf v 2)
     (two-bits _ (c .before .before .before .before .before .pre) (test-true (c .before .before .is-continuation .ensures)
     (c .before .if1 .left))))

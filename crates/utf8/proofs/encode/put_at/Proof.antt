@@ -1,5 +1,7 @@
 -- `utf8::encode::put_at` meets its contract: no room, no code point, or put as is.
-use Rattle.utf8.proofs.Writing.{bytes-least, fitting-all, fitting-full, fitting-over}
+use Rattle.utf8.proofs.Writing.{bytes-least}
+use Rattle.utf8.specs.Utf8.{form8}
+use Rattle.encodings.proofs.Texts.{code-fits, code-lacks, code-over}
 use Rattle.laws.proofs.Filling.{wrote-none}
 use native.Mathlib.Omega.{arith}
 use borrow.Author.Needs.{needs}
@@ -7,7 +9,7 @@ use Rattle.utf8.proofs.encode.put_at.Statement.{statement}
 use Rattle.utf8.proofs.encode.put_at.Tie as tie
 
 returns : tie.Need-returns
-returns c = wrote-none (fitting-full _ _ _ (omega (arith, c .if1 .taken, bytes-least (c .before .before .args .code))))
+returns c = wrote-none (code-lacks form8 _ _ _ (omega (arith, c .if1 .taken, bytes-least (c .before .before .args .code))))
 
 sub-if2 : tie.Need-sub-if2
 sub-if2 c = search needs
@@ -16,10 +18,10 @@ size-of-requires : tie.Need-size-of-requires
 size-of-requires c κs = search needs
 
 returns-2 : tie.Need-returns-2
-returns-2 c = wrote-none (fitting-full _ _ _ (omega (arith, c .if2 .taken, c .before .size-of .ensures, c .before .before .if1 .left)))
+returns-2 c = wrote-none (code-lacks form8 _ _ _ (omega (arith, c .if2 .taken, c .before .size-of .ensures, c .before .before .if1 .left)))
 
 returns-3 : tie.Need-returns-3
-returns-3 c = wrote-none (fitting-over _ _ _ (c .if3 .taken))
+returns-3 c = wrote-none (code-over form8 _ _ _ (c .if3 .taken))
 
 put-requires : tie.Need-put-requires
 put-requires c κs = (
@@ -35,7 +37,7 @@ same-length c = search needs
 
 returns-4 : tie.Need-returns-4
 returns-4 c =
-    rw (fitting-all (c .before .before .before .before .before .before .before .before .before .args .code)
+    rw (code-fits form8 (c .before .before .before .before .before .before .before .before .before .args .code)
     (c .before .before .before .before .before .before .before .before .before .args .out .now)
     (c .before .before .before .before .before .before .before .before .before .args .at) (c .before .before .before .before .if3 .left)
     (omega (

@@ -2,7 +2,6 @@
 -- point.
 use Rattle.utf8.proofs.Writing.{long-one, long-two, long-three, long-four}
 use native.Mathlib.Omega.{arith}
-use borrow.Author.Needs.{needs}
 use Rattle.utf8.proofs.encode.size_of.Statement.{statement}
 use Rattle.utf8.proofs.encode.size_of.Tie as tie
 

@@ -1,9 +1,11 @@
 -- `utf8::text::read_count` meets its contract. The loop's invariant: what is counted and what is
 -- left to be read make up the whole.
 use mathlib.Core.Path.{refl}
-use Rattle.utf8.proofs.Takes.{taken-next}
-use Rattle.utf8.proofs.Reading.{next-piece, read-end, read-most}
-use Rattle.utf8.specs.Utf8.{readText}
+use Rattle.encodings.proofs.Taking.{taken-next}
+use Rattle.encodings.proofs.Reading.{next-piece, read-end}
+use Rattle.encodings.proofs.Texts.{read-most}
+use Rattle.utf8.proofs.Round.{encodes8}
+use Rattle.utf8.specs.Utf8.{form8, readText}
 use Rattle.laws.proofs.Filling.{Counting, counting-none, counting-fits, counting-more, counting-all}
 use lib.ListN.{length, drop}
 use native.Mathlib.Omega.{arith}
@@ -28,7 +30,7 @@ add-at : tie.Need-add-at Inv-loop μ-loop
 add-at c =
     omega (
       arith,
-      (taken-next _ _ (c .before .before .loop-test .taken) (c .before .read-at .ensures)) .inside,
+      (taken-next form8 _ _ (c .before .before .loop-test .taken) (c .before .read-at .ensures)) .inside,
       c .before .before .before .before .before .pre,
     )
 
@@ -37,8 +39,8 @@ add-count c =
     omega (
       arith,
       counting-fits (c .before .before .before .loop .inv .1)
-          (next-piece (taken-next _ _ (c .before .before .loop-test .taken) (c .before .read-at .ensures))) refl,
-      read-most (c .before .before .before .before .before .args .text .now),
+          (next-piece (taken-next form8 _ _ (c .before .before .loop-test .taken) (c .before .read-at .ensures))) refl,
+      read-most encodes8 (c .before .before .before .before .before .args .text .now),
       c .before .before .before .before .before .pre,
     )
 
@@ -46,20 +48,20 @@ loop-less : tie.Need-loop-less Inv-loop μ-loop
 loop-less c =
     omega (
       arith,
-      (taken-next _ _ (c .before .before .loop-test .taken) (c .before .read-at .ensures)) .inside,
-      (taken-next _ _ (c .before .before .loop-test .taken) (c .before .read-at .ensures)) .more,
+      (taken-next form8 _ _ (c .before .before .loop-test .taken) (c .before .read-at .ensures)) .inside,
+      (taken-next form8 _ _ (c .before .before .loop-test .taken) (c .before .read-at .ensures)) .more,
       c .before .before .loop-test .taken,
     )
 
 loop-again : tie.Need-loop-again Inv-loop μ-loop
 loop-again c = (
-  (taken-next _ _ (c .before .before .loop-test .taken) (c .before .read-at .ensures)) .inside,
+  (taken-next form8 _ _ (c .before .before .loop-test .taken) (c .before .read-at .ensures)) .inside,
   counting-more (c .before .before .before .loop .inv .1)
-      (next-piece (taken-next _ _ (c .before .before .loop-test .taken) (c .before .read-at .ensures))) refl,
+      (next-piece (taken-next form8 _ _ (c .before .before .loop-test .taken) (c .before .read-at .ensures))) refl,
 )
 
 returns : tie.Need-returns Inv-loop μ-loop
-returns c = counting-all (c .before .loop .inv .1) (read-end _ _ (c .loop-test .left))
+returns c = counting-all (c .before .loop .inv .1) (read-end form8 _ _ (c .loop-test .left))
 
 pub read-count-spec : {M : Type 1} → statement M
 read-count-spec =

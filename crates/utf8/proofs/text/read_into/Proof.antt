@@ -1,11 +1,13 @@
 -- `utf8::text::read_into` meets its contract. The loop's invariant: what is written and what is
 -- left to be read make up the whole, and so do the ill-formed subparts counted and those that are
 -- left.
-use Rattle.utf8.proofs.Reading.{Ills, ills-none, next-piece, next-ills, ills-fit, read-end, ills-end, read-most}
-use Rattle.utf8.specs.Utf8.{readText}
+use Rattle.encodings.proofs.Reading.{Ills, ills-none, next-piece, next-ills, ills-fit, read-end, ills-end}
+use Rattle.encodings.proofs.Texts.{read-most}
+use Rattle.encodings.proofs.Taking.{taken-next}
+use Rattle.utf8.proofs.Round.{encodes8}
+use Rattle.utf8.specs.Utf8.{form8, readText}
 use Prim.Native.Nat.{_≤_, _-_}
 use mathlib.Core.Path.{refl}
-use Rattle.utf8.proofs.Takes.{taken-next}
 use Rattle.laws.proofs.Filling.{Filling, wrote-one, room-one, filling-none, filling-count, filling-length, filling-room, filling-more, filling-all}
 use lib.ListN.{length, drop}
 use native.Mathlib.Omega.{arith}
@@ -15,13 +17,13 @@ use Rattle.utf8.proofs.text.read_into.Tie as tie
 
 abbrev Inv-loop : tie.InvT-loop
 Inv-loop text out₀ length₀ ills₀ read₀ out k ills read =
-    (read ≤ length text) × Filling (readText text) (readText (drop read text)) out₀ out k × Ills text read ills
+    (read ≤ length text) × Filling (readText text) (readText (drop read text)) out₀ out k × Ills form8 text read ills
 
 abbrev μ-loop : tie.MeasureT-loop
 μ-loop text out₀ length₀ ills₀ read₀ out k ills read = length text - read
 
 loop-holds : tie.Need-loop-holds Inv-loop μ-loop
-loop-holds c = (search needs, filling-none _ _, ills-none _)
+loop-holds c = (search needs, filling-none _ _, ills-none form8 _)
 
 read-at-requires : tie.Need-read-at-requires Inv-loop μ-loop
 read-at-requires c κs = search needs
@@ -31,7 +33,7 @@ mul-out c =
     omega (
       arith,
       filling-count (c .before .before .loop .inv .1),
-      read-most (c .before .before .before .before .before .args .text .now),
+      read-most encodes8 (c .before .before .before .before .before .args .text .now),
       c .before .before .before .before .before .pre .0,
     )
 
@@ -39,14 +41,14 @@ slice-write-out : tie.Need-slice-write-out Inv-loop μ-loop
 slice-write-out c =
     room-one
     (filling-room (c .before .before .before .before .before .pre .1) (c .before .before .loop .inv .1)
-    (next-piece (taken-next _ _ (c .before .loop-test .taken) (c .read-at .ensures)))) refl
+    (next-piece (taken-next form8 _ _ (c .before .loop-test .taken) (c .read-at .ensures)))) refl
 
 add-length : tie.Need-add-length Inv-loop μ-loop
 add-length c =
     omega (
       arith,
       filling-count (c .before .before .loop .inv .1),
-      read-most (c .before .before .before .before .before .args .text .now),
+      read-most encodes8 (c .before .before .before .before .before .args .text .now),
       c .before .before .before .before .before .pre .0,
     )
 
@@ -54,7 +56,7 @@ add-ills : tie.Need-add-ills Inv-loop μ-loop
 add-ills c =
     omega (
       arith,
-      ills-fit (taken-next _ _ (c .before .before .loop-test .taken) (c .before .read-at .ensures)) (c .before .before .before .loop .inv .2),
+      ills-fit (taken-next form8 _ _ (c .before .before .loop-test .taken) (c .before .read-at .ensures)) encodes8 (c .before .before .before .loop .inv .2),
       c .before .before .before .before .before .before .pre .0,
     )
 
@@ -62,7 +64,7 @@ add-read : tie.Need-add-read Inv-loop μ-loop
 add-read c =
     omega (
       arith,
-      (taken-next _ _ (c .before .before .before .loop-test .taken) (c .before .before .read-at .ensures)) .inside,
+      (taken-next form8 _ _ (c .before .before .before .loop-test .taken) (c .before .before .read-at .ensures)) .inside,
       c .before .before .before .before .before .before .before .pre .0,
     )
 
@@ -70,17 +72,17 @@ loop-less : tie.Need-loop-less Inv-loop μ-loop
 loop-less c =
     omega (
       arith,
-      (taken-next _ _ (c .before .before .before .loop-test .taken) (c .before .before .read-at .ensures)) .inside,
-      (taken-next _ _ (c .before .before .before .loop-test .taken) (c .before .before .read-at .ensures)) .more,
+      (taken-next form8 _ _ (c .before .before .before .loop-test .taken) (c .before .before .read-at .ensures)) .inside,
+      (taken-next form8 _ _ (c .before .before .before .loop-test .taken) (c .before .before .read-at .ensures)) .more,
       c .before .before .before .loop-test .taken,
     )
 
 loop-again : tie.Need-loop-again Inv-loop μ-loop
 loop-again c = (
-  (taken-next _ _ (c .before .before .before .loop-test .taken) (c .before .before .read-at .ensures)) .inside,
+  (taken-next form8 _ _ (c .before .before .before .loop-test .taken) (c .before .before .read-at .ensures)) .inside,
   filling-more (c .before .before .before .before .before .before .before .pre .1) (c .before .before .before .before .loop .inv .1)
-      (next-piece (taken-next _ _ (c .before .before .before .loop-test .taken) (c .before .before .read-at .ensures))) (wrote-one refl),
-  next-ills (taken-next _ _ (c .before .before .before .loop-test .taken) (c .before .before .read-at .ensures))
+      (next-piece (taken-next form8 _ _ (c .before .before .before .loop-test .taken) (c .before .before .read-at .ensures))) (wrote-one refl),
+  next-ills (taken-next form8 _ _ (c .before .before .before .loop-test .taken) (c .before .before .read-at .ensures))
       (c .before .before .before .before .loop .inv .2),
 )
 
@@ -90,7 +92,7 @@ same-length c = filling-length (c .before .before .before .before .pre .1) (c .b
 returns : tie.Need-returns Inv-loop μ-loop
 returns c =
     record
-    { fronts = filling-all (c .before .loop .inv .1) (read-end _ _ (c .loop-test .left)); ills = ills-end _ _ (c .loop-test .left) (c .before .loop .inv .2) }
+    { fronts = filling-all (c .before .loop .inv .1) (read-end form8 _ _ (c .loop-test .left)); ills = ills-end form8 _ _ (c .loop-test .left) (c .before .loop .inv .2) }
 
 pub read-into-spec : {M : Type 1} → statement M
 read-into-spec =

@@ -1,13 +1,14 @@
 -- `utf8::text::read_lacking` meets its contract: one for each byte does, or the length is counted.
-use Rattle.utf8.proofs.Reading.{read-most}
 use Rattle.answers.proofs.Checks.{lacking-none, lacking-counted}
 use native.Mathlib.Omega.{arith}
+use Rattle.encodings.proofs.Texts.{read-most}
+use Rattle.utf8.proofs.Round.{encodes8}
 use borrow.Author.Needs.{needs}
 use Rattle.utf8.proofs.text.read_lacking.Statement.{statement}
 use Rattle.utf8.proofs.text.read_lacking.Tie as tie
 
 returns : tie.Need-returns
-returns c = lacking-none _ _ (omega (arith, read-most (c .before .before .args .text .now), c .if1 .taken))
+returns c = lacking-none _ _ (omega (arith, read-most encodes8 (c .before .before .args .text .now), c .if1 .taken))
 
 read-count-requires : tie.Need-read-count-requires
 read-count-requires c κs = search needs

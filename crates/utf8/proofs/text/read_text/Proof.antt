@@ -1,8 +1,8 @@
 -- `utf8::text::read_text` meets its contract: the check refuses, or it finds what is lacking, and
 -- refuses 3 or writes.
 use Rattle.answers.proofs.Verdicts.{checks-passed}
-use Rattle.utf8.proofs.Reading.{reads-refused, reads-lacking, reads-done}
-use Rattle.answers.proofs.Checks.{bytes-short, lacking-room}
+use Rattle.answers.proofs.Checks.{units-short, lacking-room}
+use Rattle.encodings.proofs.Reading.{reads-refused, reads-lacking, reads-done}
 use borrow.Author.Needs.{needs}
 use Rattle.utf8.proofs.text.read_text.Statement.{statement}
 use Rattle.utf8.proofs.text.read_text.Tie as tie
@@ -17,7 +17,7 @@ enum-told : tie.Need-enum-told
 enum-told c = search needs
 
 read-lacking-requires : tie.Need-read-lacking-requires
-read-lacking-requires c κs = bytes-short _ (checks-passed (c .before .before .check-bytes .ensures) (c .enum-told .given .1))
+read-lacking-requires c κs = units-short _ (checks-passed (c .before .before .check-bytes .ensures) (c .enum-told .given .1))
 
 returns : tie.Need-returns
 returns c =
@@ -29,7 +29,7 @@ read-into-requires : tie.Need-read-into-requires
 read-into-requires c κs =
     let lacking = c .before .before in
     let passed = lacking .before in (
-      bytes-short _ (checks-passed (passed .before .before .check-bytes .ensures) (passed .enum-told .given .1)),
+      units-short _ (checks-passed (passed .before .before .check-bytes .ensures) (passed .enum-told .given .1)),
       lacking-room _ _ (lacking .read-lacking .ensures) (c .before .if1 .left),
     )
 

@@ -1,8 +1,9 @@
 -- `utf8::text::write_count` meets its contract. The loop's invariant: what is counted and what is
 -- left make up the whole.
-use Rattle.utf8.proofs.Writing.{write-piece, write-end, write-most}
+use Rattle.laws.proofs.Filling.{each-piece, Counting, counting-none, counting-fits, counting-more, counting-all}
+use Rattle.laws.proofs.Lists.{each-end}
 use Rattle.utf8.specs.Utf8.{bytesOf, writeText}
-use Rattle.laws.proofs.Filling.{Counting, counting-none, counting-fits, counting-more, counting-all}
+use Rattle.utf8.proofs.Writing.{write-most}
 use Rattle.laws.specs.Lists.{each}
 use lib.ListN.{length, drop}
 use native.Mathlib.Omega.{arith}
@@ -33,7 +34,7 @@ add-count : tie.Need-add-count Inv-loop μ-loop
 add-count c =
     omega (
       arith,
-      counting-fits (c .before .before .before .loop .inv .1) (write-piece _ _ (c .before .before .loop-test .taken)) (c .size-of .ensures),
+      counting-fits (c .before .before .before .loop .inv .1) (each-piece bytesOf 0 _ _ (c .before .before .loop-test .taken)) (c .size-of .ensures),
       write-most (c .before .before .before .before .before .args .text .now),
       c .before .before .before .before .before .pre,
     )
@@ -47,11 +48,11 @@ loop-less c = search needs
 loop-again : tie.Need-loop-again Inv-loop μ-loop
 loop-again c = (
   search needs,
-  counting-more (c .before .before .before .loop .inv .1) (write-piece _ _ (c .before .before .loop-test .taken)) (c .size-of .ensures),
+  counting-more (c .before .before .before .loop .inv .1) (each-piece bytesOf 0 _ _ (c .before .before .loop-test .taken)) (c .size-of .ensures),
 )
 
 returns : tie.Need-returns Inv-loop μ-loop
-returns c = counting-all (c .before .loop .inv .1) (write-end _ _ (c .loop-test .left))
+returns c = counting-all (c .before .loop .inv .1) (each-end bytesOf _ _ (c .loop-test .left))
 
 pub write-count-spec : {M : Type 1} → statement M
 write-count-spec =

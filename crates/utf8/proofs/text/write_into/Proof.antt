@@ -1,9 +1,11 @@
 -- `utf8::text::write_into` meets its contract. The loop's invariant: what is written and what is
 -- left make up the whole.
-use Rattle.utf8.proofs.Writing.{write-piece, write-end, taken-most, fitting-all}
-use Rattle.utf8.specs.Utf8.{bytesOf, writeText, fitting}
-use Rattle.laws.specs.Writing.{Room, Wrote}
-use Rattle.laws.proofs.Filling.{Filling, filling-none, filling-length, filling-room, filling-more, filling-all}
+use Rattle.laws.proofs.Filling.{each-piece, Filling, filling-none, filling-length, filling-room, filling-more, filling-all}
+use Rattle.laws.proofs.Lists.{each-end}
+use Rattle.utf8.specs.Utf8.{bytesOf, form8, writeText, codeBytes}
+use Rattle.utf8.proofs.Writing.{taken-most}
+use Rattle.encodings.proofs.Texts.{code-fits}
+use Rattle.laws.specs.Writing.{Room, fitted, Wrote}
 use Rattle.laws.specs.Lists.{each}
 use lib.ListN.{length, drop}
 use mathlib.Core.List.{List}
@@ -13,9 +15,9 @@ use Rattle.utf8.proofs.text.write_into.Statement.{statement}
 use Rattle.utf8.proofs.text.write_into.Tie as tie
 
 -- a code point within the limit, and room for its bytes: what fits is all of them
-wrote-all : {c : ℕ} {out out′ : List ℕ} {k k′ : ℕ} → c ≤ 0x10FFFF → Room out k (bytesOf c) → Wrote out k (fitting c out k) k′ out′
+wrote-all : {c : ℕ} {out out′ : List ℕ} {k k′ : ℕ} → c ≤ 0x10FFFF → Room out k (bytesOf c) → Wrote out k (fitted (codeBytes c) out k) k′ out′
     → Wrote out k (bytesOf c) k′ out′
-wrote-all {c} {out} {k = k} h room w = rw (fitting-all c out k h (room .fits)) at w
+wrote-all {c} {out} {k = k} h room w = rw (code-fits form8 c out k h (room .fits)) at w
 
 abbrev Inv-loop : tie.InvT-loop
 Inv-loop text out₀ at₀ next₀ out at next = (next ≤ length text) × Filling (writeText text) (each bytesOf (drop next text)) out₀ out at
@@ -46,20 +48,20 @@ loop-again c = (
   search needs,
   filling-more (c .before .before .before .before .before .before .before .before .before .pre .1)
       (c .before .before .before .before .before .before .loop .inv .1)
-      (write-piece _ _ (c .before .before .before .before .before .loop-test .taken))
+      (each-piece bytesOf 0 _ _ (c .before .before .before .before .before .loop-test .taken))
       (wrote-all
       (taken-most _ (c .before .before .before .before .before .before .before .before .before .pre .0) _
       (c .before .before .before .before .before .loop-test .taken))
       (filling-room (c .before .before .before .before .before .before .before .before .before .pre .1)
       (c .before .before .before .before .before .before .loop .inv .1)
-      (write-piece _ _ (c .before .before .before .before .before .loop-test .taken))) (c .before .before .put-at .ensures)),
+      (each-piece bytesOf 0 _ _ (c .before .before .before .before .before .loop-test .taken))) (c .before .before .put-at .ensures)),
 )
 
 same-length : tie.Need-same-length Inv-loop μ-loop
 same-length c = filling-length (c .before .before .before .before .pre .1) (c .before .loop .inv .1)
 
 returns : tie.Need-returns Inv-loop μ-loop
-returns c = filling-all (c .before .loop .inv .1) (write-end _ _ (c .loop-test .left))
+returns c = filling-all (c .before .loop .inv .1) (each-end bytesOf _ _ (c .loop-test .left))
 
 pub write-into-spec : {M : Type 1} → statement M
 write-into-spec =

@@ -1,0 +1,21 @@
+// wire: the wire form of the test programs (docs/CALLS.md). Numbers of 32 bits, low byte first; the
+// eight numbers of a call and the four of an answer; and the fill of a lent buffer. Every function
+// takes every input.
+mod head;
+mod lent;
+mod numbers;
+mod reply;
+
+pub use head::Head;
+pub use head::head_of;
+pub use lent::at_most;
+pub use lent::fill;
+pub use lent::fill_bytes;
+pub use numbers::put_numbers;
+pub use numbers::read_numbers;
+pub use reply::Reply;
+pub use reply::counted;
+pub use reply::done;
+pub use reply::filled;
+pub use reply::put_reply;
+pub use reply::refused;
