@@ -5,7 +5,7 @@
 -- (`counted-size`); HOW LONG THE LINES ARE AT MOST (`printed-most`, `image-printed-most`), and that
 -- 682 records need just that many bytes (`printed-full`); what the answer of `order` says
 -- (`order-refused`, `order-bad`), and what the numbers are that it leaves (`numbers-order`,
--- `numbers-most`, `numbers-inside`); the returns of printing, one law each (`prints-refused`,
+-- `numbers-short`, `numbers-most`, `numbers-inside`); the returns of printing, one law each (`prints-refused`,
 -- `prints-bad`, `prints-lacking`, `prints-done`); ANY TWO RESULTS ARE EQUAL (`prints-unique`); A
 -- BUFFER OF 2,618 BYTES IS NEVER TOO SHORT (`prints-enough`).
 --
@@ -22,12 +22,12 @@ use Rattle.laws.specs.Lists.{each}
 use Rattle.laws.specs.Writing.{front, Fronts}
 use Rattle.laws.proofs.Bools.{test}
 use Rattle.laws.proofs.Lists.{each-cons}
-use Rattle.answers.specs.Checks.{Check, passes, refuses}
+use Rattle.answers.specs.Checks.{Check, passes, refuses, lacking}
 use Rattle.answers.specs.Verdicts.{done, refused, verdict, fits}
 use Rattle.answers.specs.Answers.{told}
 use Rattle.answers.specs.declared.refusal.Refusal.{Refusal}
 use Rattle.answers.specs.declared.refusal.Refusal.the-variants.{NoRoom}
-use Rattle.answers.proofs.Checks.{no-room-passes}
+use Rattle.answers.proofs.Checks.{no-room-passes, lacking-size, lacking-less, lacking-room}
 use Rattle.answers.proofs.Verdicts.{refused-before, refused-room, filled-whole, fills-unique, fills-done, fills-front, done-not-refused}
 use Rattle.ranking.specs.declared.order.Order.{Order}
 use Rattle.labels.specs.Images.{countOf, takesImage, judgedAs, namedBy}
@@ -183,6 +183,11 @@ module _ (image : List ℕ) (sized : length (orderOf image) ≡ countOf image) {
     pub numbers-order : take n numbers′ ≡ orderOf image
     numbers-order = fills-front (rw e at (o .fills)) (order-done .1 ∙ sym sized)
 
+    -- and their lines are at most 2,618 bytes
+    pub numbers-short : InOrder (standing image) (countOf image) (orderOf image) → length (each numberLine (take n numbers′)) ≤ 2618
+    unfolding printed
+    numbers-short good = rw numbers-order (image-printed-most image (taken-short image (order-done .0)) good sized)
+
     pub numbers-most : n ≤ 682
     numbers-most = omega (arith, taken-count image (order-done .0), order-done .1)
 
@@ -202,23 +207,25 @@ module _ (image : List ℕ) (sized : length (orderOf image) ≡ countOf image) {
   pub prints-bad : {k byte : ℕ} → r ≡ BadRecord k byte → (out : List ℕ) → Prints image out (BadRecord k byte) out
   prints-bad e out = record { fills = refused-before (order-bad e); names = sym (ap namedBy e) ∙ o .names }
 
-  module _ {n : ℕ} (e : r ≡ Records n) {needed : ℕ} (counted : needed ≡ length (each numberLine (take n numbers′))) where
+  module _ {n : ℕ} (e : r ≡ Records n) where
     lines-printed : each numberLine (take n numbers′) ≡ printed image
     unfolding printed
     lines-printed = ap (each numberLine) (numbers-order e)
 
-    pub prints-lacking : {out : List ℕ} → length out < needed → Prints image out (Refused (NoRoom needed)) out
+  -- needed is what is found to be lacking
+  module _ {n : ℕ} (e : r ≡ Records n) (out : List ℕ) {needed : ℕ} (found : needed ≡ lacking (length out) (length (each numberLine (take n numbers′)))) where
+    pub prints-lacking : (needed ≡ 0 → ⊥) → Prints image out (Refused (NoRoom needed)) out
     prints-lacking h = record {
-      fills = refused-room (order-done e .0) (counted ∙ ap length lines-printed) h;
+      fills = refused-room (order-done e .0) (lacking-size _ _ found h ∙ ap length (lines-printed e)) (lacking-less _ _ found h);
       names = sym (ap namedBy e) ∙ o .names;
     }
 
-    pub prints-done : {out : List ℕ} → needed ≤ length out → {size : ℕ} {out′ : List ℕ} → Fronts (each numberLine (take n numbers′)) out size out′
+    pub prints-done : needed ≡ 0 → {size : ℕ} {out′ : List ℕ} → Fronts (each numberLine (take n numbers′)) out size out′
         → Prints image out (Records size) out′
-    prints-done {out} h {size} {out′} w =
-        let v : Fronts (printed image) out size out′ = rw lines-printed at w in
+    prints-done h {size} {out′} w =
+        let v : Fronts (printed image) out size out′ = rw (lines-printed e) at w in
         record {
-          fills = rw (v .size) (filled-whole (order-done e .0) (omega (arith, counted, ap length lines-printed)) (v .holds));
+          fills = rw (v .size) (filled-whole (order-done e .0) (omega (arith, lacking-room _ _ found h, ap length (lines-printed e))) (v .holds));
           names = sym (ap namedBy e) ∙ o .names;
         }
 

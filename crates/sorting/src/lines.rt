@@ -5,6 +5,7 @@ use labels::Judged;
 ghost use mathlib.Core.Path.{_≡_};
 ghost use Prim.Native.Nat.{_≤_};
 ghost use lib.ListN.{length, take};
+ghost use Rattle.answers.specs.Checks.{lacking};
 ghost use Rattle.sorting.specs.Printing.{numberLine, Prints};
 ghost use Rattle.laws.specs.Writing.{Room, Wrote, Fronts};
 ghost use Rattle.laws.specs.Lists.{each};
@@ -44,6 +45,23 @@ fn lines_count(numbers: &[u32], count: usize) -> usize
     size
 }
 
+// The lines of an image's records are never longer.
+const ENOUGH: usize = 2618;
+
+// 0 if `room` is enough, else the length needed. If it is enough for every image, nothing is
+// counted.
+fn lines_lacking(numbers: &[u32], count: usize, room: usize) -> usize
+    requires { ⌜ count ≤ length (now numbers) ⌝ }
+    requires { ⌜ count ≤ 682 ⌝ }
+    requires { ⌜ length (each numberLine (take count (now numbers))) ≤ 2618 ⌝ }
+    ensures { λ r. ⌜ r ≡ lacking room (length (each numberLine (take count (now (numbers .entry))))) ⌝ }
+{
+    if ENOUGH <= room {
+        return 0;
+    }
+    answers::lacking(room, lines_count(numbers, count))
+}
+
 // Writes the lines of the first `count` numbers to the front of `out`, which has room for them.
 fn put_lines(numbers: &[u32], count: usize, out: &mut [u8]) -> usize
     requires { ⌜ count ≤ length (now numbers) ⌝ }
@@ -67,8 +85,8 @@ pub fn print(image: &[u8], out: &mut [u8]) -> Judged
     let judged = crate::records::order(image, &mut numbers);
     match judged {
         Judged::Records(count) => {
-            let needed = lines_count(&numbers, count);
-            if out.len() < needed {
+            let needed = lines_lacking(&numbers, count, out.len());
+            if needed != 0 {
                 return Judged::Refused(Refusal::NoRoom(needed));
             }
             Judged::Records(put_lines(&numbers, count, out))

@@ -1,8 +1,9 @@
 -- `sorting::lines::print` meets its contract: the order is refused, or its lines have no room, or
 -- they are written.
 use native.Mathlib.Omega.{arith}
-use Rattle.sorting.proofs.Printed.{numbers-inside, numbers-most, prints-refused, prints-bad, prints-lacking, prints-done}
-use Rattle.sorting.proofs.Sorted.{order-length}
+use Rattle.answers.proofs.Checks.{lacking-room}
+use Rattle.sorting.proofs.Printed.{numbers-inside, numbers-short, numbers-most, prints-refused, prints-bad, prints-lacking, prints-done}
+use Rattle.sorting.proofs.Sorted.{order-right, order-length}
 use borrow.Author.Needs.{needs}
 use Rattle.sorting.proofs.lines.print.Statement.{statement}
 use Rattle.sorting.proofs.lines.print.Tie as tie
@@ -16,19 +17,24 @@ order-requires c κs = search needs
 enum-known-judged : tie.Need-enum-known-judged
 enum-known-judged c = search needs
 
-slice-aggregate-lines-count : tie.Need-slice-aggregate-lines-count
-slice-aggregate-lines-count c = search needs
+slice-aggregate-lines-lacking : tie.Need-slice-aggregate-lines-lacking
+slice-aggregate-lines-lacking c = search needs
 
-lines-count-requires : tie.Need-lines-count-requires
-lines-count-requires c κs = (
-  numbers-inside _ (order-length _) (omega arith) (c .before .before .before .before .before .order .ensures) (c .before .before .judged .given .1),
-  numbers-most _ (order-length _) (omega arith) (c .before .before .before .before .before .order .ensures) (c .before .before .judged .given .1),
-)
+lines-lacking-requires : tie.Need-lines-lacking-requires
+lines-lacking-requires c κs =
+    let ordered = c .before .before .before .before .before .order .ensures in
+    let found = c .before .before .judged .given .1 in (
+      numbers-inside _ (order-length _) (omega arith) ordered found,
+      (
+        numbers-most _ (order-length _) (omega arith) ordered found,
+        numbers-short _ (order-length _) (omega arith) ordered found (order-right _),
+      ),
+    )
 
 returns : tie.Need-returns
 returns c =
     prints-lacking _ (order-length _) (omega arith) (c .before .before .before .before .before .before .before .order .ensures)
-    (c .before .before .before .before .judged .given .1) (c .before .lines-count .ensures) (c .if1 .taken)
+    (c .before .before .before .before .judged .given .1) _ (c .before .lines-lacking .ensures) (c .if1 .taken)
 
 slice-aggregate-put-lines : tie.Need-slice-aggregate-put-lines
 slice-aggregate-put-lines c = search needs
@@ -37,7 +43,7 @@ put-lines-requires : tie.Need-put-lines-requires
 put-lines-requires c κs = (
   numbers-inside _ (order-length _) (omega arith) (c .before .before .before .before .before .before .before .before .before .order .ensures)
       (c .before .before .before .before .before .before .judged .given .1),
-  omega (arith, c .before .before .before .lines-count .ensures, c .before .before .if1 .left),
+  lacking-room _ _ (c .before .before .before .lines-lacking .ensures) (c .before .before .if1 .left),
 )
 
 enum-known-judged-2 : tie.Need-enum-known-judged-2
@@ -53,8 +59,8 @@ returns-2 : tie.Need-returns-2
 returns-2 c =
     prints-done _ (order-length _) (omega arith)
     (c .before .before .before .before .before .before .before .before .before .before .before .before .order .ensures)
-    (c .before .before .before .before .before .before .before .before .before .judged .given .1)
-    (c .before .before .before .before .before .before .lines-count .ensures) (c .before .before .before .before .before .if1 .left)
+    (c .before .before .before .before .before .before .before .before .before .judged .given .1) _
+    (c .before .before .before .before .before .before .lines-lacking .ensures) (c .before .before .before .before .before .if1 .left)
     (c .before .before .put-lines .ensures)
 
 returns-3 : tie.Need-returns-3
@@ -70,8 +76,8 @@ print-spec =
     slice-aggregate-order
     order-requires
     enum-known-judged
-    slice-aggregate-lines-count
-    lines-count-requires
+    slice-aggregate-lines-lacking
+    lines-lacking-requires
     returns
     slice-aggregate-put-lines
     put-lines-requires
