@@ -1,10 +1,11 @@
 -- Laws of an encoding by rows, over any table. In order: the row of a first unit by its range
--- (`row-between`, `row-full`, `row-bad`); kinds exclude each other (`full-bad`, `part-bad`, `part-full`); sequences that
--- follow a row to its end (`Follow`, `follow-full` and back `full-follow`, `full-by`); what is
--- longer than a bad or a full sequence is bad. Then of a table of which every further unit lies
--- between `low` and `high`, and no range is empty (`innerTable`, one computed test): a unit outside
--- that range begins a piece (`starts-by`), what is a proper beginning really goes on to a well-formed
--- sequence (`completes-by`), and THE KIND OF A SEQUENCE IS COHERENT (`coherent-by`).
+-- (`row-between`, `row-full`, `row-bad`); kinds exclude each other (`full-bad`, `part-bad`,
+-- `part-full`); sequences that follow a row to its end (`Follow`, `follow-full` and back
+-- `full-follow`, `full-by`); what is longer than a bad or a full sequence is bad. Then of a table
+-- of which every further unit lies between `low` and `high`, and no range is empty (`innerTable`,
+-- one computed test): a unit outside that range begins a piece (`starts-by`), what is a proper
+-- beginning really goes on to a well-formed sequence (`completes-by`), and THE KIND OF A SEQUENCE
+-- IS COHERENT (`coherent-by`).
 use mathlib.Core.Path.{_≡_, refl, sym}
 use mathlib.Core.Bool.{Bool, true, false, cond, not, _&&_}
 use mathlib.Core.Logic.{⊎-elim}

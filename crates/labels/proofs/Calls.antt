@@ -271,6 +271,7 @@ module _ (image : List ℕ) (k object berth : ℕ) (form : Form) (label : List �
     pub others-kept : (j : ℕ) → (j ≡ k → ⊥) → recordAt image′ j ≡ recordAt image j
     others-kept j h = ap (λ (l : List ℕ). recordAt l j) (w .leaves) ∙ others-by j h (takesWriting image k form label) refl
 
--- ---- two labels that read as texts with the same full parts, two spellings of one boat, are stored joined as the same bytes
+-- ---- two labels that read as texts with the same full parts, two spellings of one boat, are
+-- stored joined as the same bytes
 pub stored-same : (s t : List ℕ) → fullParts (readText s) ≡ fullParts (readText t) → stored Joined s ≡ stored Joined t
 stored-same s t e = same-mended encodes8 s t .1 e

@@ -1,8 +1,9 @@
 -- How long it is what the joined characters of a text give: at most b for each unit of the text,
 -- where a code point gives at most b for each of its own units, U+FFFD no more than b, and what two
--- join to no more than b for each unit of the second (`Bounded`, `each-most`). In any encoding form.
--- So a mended text of bytes has at most three bytes for each byte of the text (`mended-most`): what
--- grows is an ill-formed part of one byte or two, which becomes the three bytes of U+FFFD.
+-- join to no more than b for each unit of the second (`Bounded`, `each-most`). In any encoding
+-- form. So a mended text of bytes has at most three bytes for each byte of the text
+-- (`mended-most`): what grows is an ill-formed part of one byte or two, which becomes the three
+-- bytes of U+FFFD.
 --
 -- In order: the bounds of one code point (`Bounded`); code points that are covered by so many units
 -- (`Covers`), as those are that a text reads as (`reading-covers`); what joins gives no more

@@ -1,6 +1,6 @@
--- Demand 3 of the mended text, in any encoding form: how far damage in the middle reaches, for every
--- beginning, every ending and whatever stands between them, and over a call's contract. The general
--- law stands in crate encodings (proofs/Damage); here it is at the joiner.
+-- Demand 3 of the mended text, in any encoding form: how far damage in the middle reaches, for
+-- every beginning, every ending and whatever stands between them, and over a call's contract. The
+-- general law stands in crate encodings (proofs/Damage); here it is at the joiner.
 --
 -- In order: what is not soft joins with nothing before it (`soft-hard`); joining and writing may be
 -- cut (`joined-cuttable`); mending keeps its beginning and its ending (`mended-keeps`), where these

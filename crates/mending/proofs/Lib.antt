@@ -1,5 +1,6 @@
--- The laws of crate mending, lowest first: Characters to Bound hold of any encoding form, the others
--- are UTF-8's own. What a caller may cite is `pub mod`; functions' proofs have folders of their own.
+-- The laws of crate mending, lowest first: Characters to Bound hold of any encoding form, the
+-- others are UTF-8's own. What a caller may cite is `pub mod`; functions' proofs have folders of
+-- their own.
 pub mod Characters
 pub mod Turns
 pub mod Damage

@@ -1,5 +1,5 @@
--- The round trips of mending, in any encoding form: a text with nothing to mend comes back as it is,
--- and a mended text is mended already; with what a mended text reads as. Over lists, and over a
+-- The round trips of mending, in any encoding form: a text with nothing to mend comes back as it
+-- is, and a mended text is mended already; with what a mended text reads as. Over lists, and over a
 -- call's contract: its answer and its buffer, where the units are taken and there is room.
 --
 -- In order: what a mended text reads as (`mended-good`, `mended-read`, `mended-joined`) and that

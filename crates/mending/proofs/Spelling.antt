@@ -157,7 +157,7 @@ module _ (text : List ℕ) (at : ℕ) {r : ℕ} (tail : Tail text at r) where
       absurd (high (omega (arith, e, tail-high c h m)) (omega (arith, e, tail-high c h m)))))
       (λ e. sym e)
 
--- ---- a syllable in letters: a is the tail of an initial at an index, and b that of a peak after it
+-- ---- a syllable in letters: a is the tail of an initial at an index, b that of a peak after it
 
 pub spelled-none : {r : Taken} {G : Type 0} → r ≡ goodOf 0 0 → (r .size ≡ 0 → ⊥) → G
 spelled-none e h = absurd (h (ap (λ (x : Taken). x .size) e))

@@ -1,8 +1,8 @@
--- One turn of the loops over a text, and the loops, in any encoding form. In order: the units between
--- two indices, copied one by one (`Copying` and its laws); a part that passes (`passes-none`,
--- `passes-on`, `passes-full`, `passes-length`); a turn that writes: a character has room and was
--- written (`wrote-placed`, `character-fits`, `character-moved`), so with units that pass
--- (`passes-room`, `passes-moved`); a turn that counts (`count-fits`, `count-character`,
+-- One turn of the loops over a text, and the loops, in any encoding form. In order: the units
+-- between two indices, copied one by one (`Copying` and its laws); a part that passes
+-- (`passes-none`, `passes-on`, `passes-full`, `passes-length`); a turn that writes: a character has
+-- room and was written (`wrote-placed`, `character-fits`, `character-moved`), so with units that
+-- pass (`passes-room`, `passes-moved`); a turn that counts (`count-fits`, `count-character`,
 -- `passes-count`, `count-passes`); and what the two loops keep (`Writing`, `Tallying`, with their
 -- laws) up to the end (`mended-end`).
 use mathlib.Core.Path.{_≡_, refl, sym, _∙_, ap}

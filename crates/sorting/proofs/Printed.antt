@@ -5,9 +5,9 @@
 -- (`counted-size`); HOW LONG THE LINES ARE AT MOST (`printed-most`, `image-printed-most`), and that
 -- 682 records need just that many bytes (`printed-full`); what the answer of `order` says
 -- (`order-refused`, `order-bad`), and what the numbers are that it leaves (`numbers-order`,
--- `numbers-short`, `numbers-most`, `numbers-inside`); the returns of printing, one law each (`prints-refused`,
--- `prints-bad`, `prints-lacking`, `prints-done`); ANY TWO RESULTS ARE EQUAL (`prints-unique`); A
--- BUFFER OF 2,618 BYTES IS NEVER TOO SHORT (`prints-enough`).
+-- `numbers-short`, `numbers-most`, `numbers-inside`); the returns of printing, one law each
+-- (`prints-refused`, `prints-bad`, `prints-lacking`, `prints-done`); ANY TWO RESULTS ARE EQUAL
+-- (`prints-unique`); A BUFFER OF 2,618 BYTES IS NEVER TOO SHORT (`prints-enough`).
 --
 -- That the order is right and how many numbers it has are premises here.
 use mathlib.Core.Path.{_≡_, refl, sym, _∙_, ap}

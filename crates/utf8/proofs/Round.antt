@@ -1,6 +1,6 @@
--- UTF-8 is an encoding form: of a code point that is not bad, the bytes are well-formed and have its
--- value; and a well-formed sequence is the bytes of its value. So what is written reads back, and
--- what is read is written back (crate encodings, proofs/Texts).
+-- UTF-8 is an encoding form: of a code point that is not bad, the bytes are well-formed and have
+-- its value; and a well-formed sequence is the bytes of its value. So what is written reads back,
+-- and what is read is written back (crate encodings, proofs/Texts).
 --
 -- In order: the table's first column (`Row`, `row-of`); from a code point to its bytes
 -- (`bytes-full`, `bytes-value`); from well-formed bytes to the code point (`full-bytes`); and the

@@ -3,20 +3,20 @@ use mathlib.Core.Path.{sym, _∙_}
 use Prim.Native.Nat.{_-_}
 use lib.ListN.{length}
 use Rattle.wire.specs.Numbers.{numbersOf}
-use Rattle.wire.proofs.Filling.{Fills, fills-none, fills-next, fills-all}
+use Rattle.wire.proofs.Filling.{Overwriting, overwriting-none, overwriting-next, overwriting-all}
 use Rattle.wire.proofs.FourBytes.{length-numbers, numbers-at}
 use borrow.Author.Needs.{needs}
 use Rattle.wire.proofs.numbers.read_numbers.Statement.{statement}
 use Rattle.wire.proofs.numbers.read_numbers.Tie as tie
 
 abbrev Inv-loop : tie.InvT-loop
-Inv-loop bytes out₀ i₀ out i = Fills (numbersOf (length out₀) bytes) out₀ out i
+Inv-loop bytes out₀ i₀ out i = Overwriting (numbersOf (length out₀) bytes) out₀ out i
 
 abbrev μ-loop : tie.MeasureT-loop
 μ-loop bytes out₀ i₀ out i = length out₀ - i
 
 loop-holds : tie.Need-loop-holds Inv-loop μ-loop
-loop-holds c = fills-none _ _ (length-numbers _ _)
+loop-holds c = overwriting-none _ _ (length-numbers _ _)
 
 number-at-requires : tie.Need-number-at-requires Inv-loop μ-loop
 number-at-requires c κs = search needs
@@ -35,13 +35,13 @@ loop-less c = search needs
 
 loop-again : tie.Need-loop-again Inv-loop μ-loop
 loop-again c =
-    fills-next 0 (c .before .before .loop .inv) (c .before .loop-test .taken) (λ h. c .number-at .ensures ∙ sym (numbers-at _ _ _ 0 h))
+    overwriting-next 0 (c .before .before .loop .inv) (c .before .loop-test .taken) (λ h. c .number-at .ensures ∙ sym (numbers-at _ _ _ 0 h))
 
 same-length : tie.Need-same-length Inv-loop μ-loop
 same-length c = search needs
 
 returns : tie.Need-returns Inv-loop μ-loop
-returns c = fills-all (c .before .loop .inv) (c .loop-test .left)
+returns c = overwriting-all (c .before .loop .inv) (c .loop-test .left)
 
 pub read-numbers-spec : {M : Type 1} → statement M
 read-numbers-spec =
