@@ -1,21 +1,18 @@
--- Laws of the checks: a bad code point by its range; the first one, at a loop's index; each check
--- where it refuses and where it passes; and back, what a code point that is not bad and a text that
--- is taken say.
+-- Laws of the checks: a bad code point by its range; each check where it refuses and where it
+-- passes; and back, what a code point that is not bad and a text that is taken say.
 use mathlib.Core.Path.{_≡_, refl, sym, _∙_, ap}
-use mathlib.Core.Bool.{Bool, true, false, cond}
+use mathlib.Core.Bool.{true, false}
 use mathlib.Core.Logic.{_⊎_}
 use mathlib.Core.List.{List, [], _∷_}
-use Prim.Native.Nat.{ℕ, suc, _+_, _≤_, _<_}
-use native.Mathlib.Numerals.{add-one}
+use Prim.Native.Nat.{ℕ, _≤_, _<_}
 use native.Mathlib.Omega.{arith}
-use lib.ListN.{length, getD, drop, drop-of-length-le}
-use lib.Seq.{drop-cons}
+use lib.ListN.{length, getD}
 use lib.Dec.{ltb}
 use borrow.Author.Tests.{lt-ltb, le-ltb, ltb-true, ltb-false}
-use Rattle.laws.specs.Lists.{All, none, also}
+use Rattle.laws.specs.Lists.{All, firstWhere}
 use Rattle.laws.specs.Ranges.{within}
 use Rattle.laws.proofs.Bools.{test, or-left, or-right}
-use Rattle.laws.proofs.Lists.{all-at}
+use Rattle.laws.proofs.Lists.{all-at, first-none, none-first}
 use Rattle.laws.proofs.Ranges.{within-yes, within-below, within-above, within-not}
 use Rattle.answers.specs.Checks.{passes, refuses, overLimit, bad, firstBad, badCodePoint, noRoom, lacking, takesText, takesUnits}
 use Rattle.answers.proofs.Orders.{passes-refuses, order-first, passes-false}
@@ -37,24 +34,6 @@ bad-surrogate c h k = simp (le-ltb 0x10FFFF c (omega arith), within-yes 0xD800 0
 pub bad-over : (c : ℕ) → 0x10FFFF < c → bad c ≡ true
 unfolding bad
 bad-over c h = simp (lt-ltb 0x10FFFF c h)
-
--- ---- firstBad, at a loop's index: n is the index wanted
-
-module _ (l : List ℕ) (i n : ℕ) where
-  at-index : i < length l → drop i l ≡ getD l i 0 ∷ drop (i + 1) l
-  at-index h = rw add-one (drop-cons l i 0 h)
-
-  pub first-bad-next : i < length l → bad (getD l i 0) ≡ false → i + firstBad (drop i l) ≡ n → i + 1 + firstBad (drop (i + 1) l) ≡ n
-  unfolding firstBad
-  first-bad-next h e q = omega (arith, simp e at (rw (at-index h) at q))
-
-  pub first-bad-here : i < length l → bad (getD l i 0) ≡ true → i + firstBad (drop i l) ≡ n → i ≡ n
-  unfolding firstBad
-  first-bad-here h e q = omega (arith, simp e at (rw (at-index h) at q))
-
-  pub first-bad-end : length l ≤ i → i + firstBad (drop i l) ≡ n → i ≡ n
-  unfolding firstBad
-  first-bad-end h q = omega (arith, simp (drop-of-length-le l h) at q)
 
 -- ---- each check, where it refuses and where it passes
 
@@ -81,11 +60,11 @@ bad-code-point-passes text h = simp (le-ltb (firstBad text) (length text) h)
 
 -- of one code point alone
 pub code-bad : (c : ℕ) → bad c ≡ true → badCodePoint (c ∷ []) ≡ refuses 2 0
-unfolding badCodePoint firstBad
+unfolding badCodePoint firstWhere
 code-bad c h = simp h
 
 pub code-good : (c : ℕ) → bad c ≡ false → badCodePoint (c ∷ []) ≡ passes
-unfolding badCodePoint firstBad
+unfolding badCodePoint firstWhere
 code-good c h = simp h
 
 pub no-room-refuses : (room needed : ℕ) → room < needed → noRoom room needed ≡ refuses 3 needed
@@ -151,13 +130,8 @@ module _ (text : List ℕ) where
 
 -- ---- a text with no bad code point
 
-first-bad-none : {text : List ℕ} → All (λ c. bad c ≡ false) text → firstBad text ≡ length text
-unfolding firstBad
-first-bad-none none = refl
-first-bad-none (also h p) = rw (h, first-bad-none p)
-
 pub good-taken : (text : List ℕ) → length text ≤ 16384 → All (λ c. bad c ≡ false) text → takesText text ≡ passes
-good-taken text short good = text-taken text short refl (omega (arith, first-bad-none good))
+good-taken text short good = text-taken text short refl (omega (arith, first-none bad good))
 
 -- ---- a text of code units: 1
 
@@ -184,21 +158,11 @@ pub good-gap : (c : ℕ) → bad c ≡ false → (c < 0xD800) ⊎ (0xDFFF < c)
 unfolding bad
 good-gap c e = within-not 0xD800 0xDFFF c (or-right (ltb 0x10FFFF c) (within 0xD800 0xDFFF c) e)
 
-first-bad-all : (text : List ℕ) → length text ≤ firstBad text → All (λ c. bad c ≡ false) text
-unfolding firstBad
-first-bad-all [] h = none
-first-bad-all (c ∷ text) h = by (bad c) refl h (first-bad-all text)
-  where
-    by : (b : Bool) → bad c ≡ b → length (c ∷ text) ≤ cond b 0 (suc (firstBad text))
-        → (length text ≤ firstBad text → All (λ c. bad c ≡ false) text) → All (λ c. bad c ≡ false) (c ∷ text)
-    by true e h rest = absurd (omega arith)
-    by false e h rest = also e (rest (omega arith))
-
 pub taken-all : (text : List ℕ) → takesText text ≡ passes → All (λ c. bad c ≡ false) text
 taken-all text e =
     test (ltb (firstBad text) (length text))
     (λ h. absurd (passes-refuses (sym e ∙ text-bad text (text-short text e) refl (ltb-true (firstBad text) (length text) h))))
-    (λ h. first-bad-all text (ltb-false (firstBad text) (length text) h))
+    (λ h. none-first bad text (ltb-false (firstBad text) (length text) h))
 
 pub taken-good : (text : List ℕ) → takesText text ≡ passes → (i : ℕ) → i < length text → bad (getD text i 0) ≡ false
 taken-good text e i h = all-at 0 (taken-all text e) i h

@@ -24,7 +24,7 @@ told NoName = record { number = 5; place = 0 }
 told (NoRecord size) = record { number = 6; place = size }
 told (BadLayout byte) = record { number = 7; place = byte }
 
--- the line that a program prints where it is refused (document 01, 'Programs')
+-- the line that a program prints if it is refused (document 01, 'Programs')
 unfoldable pub refusedLine : Refusal → List ℕ
 refusedLine r = ascii "refused " ++ ((0x30 + told r .number) ∷ 0x0A ∷ [])
 

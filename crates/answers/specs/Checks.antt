@@ -7,6 +7,7 @@ use mathlib.Core.List.{List, [], _∷_}
 use Prim.Native.Nat.{ℕ, suc}
 use lib.Dec.{ltb}
 use lib.ListN.{length}
+use Rattle.laws.specs.Lists.{firstWhere}
 use Rattle.laws.specs.Ranges.{within}
 
 -- what a check says: it passes, or it refuses with a number and a place
@@ -28,10 +29,9 @@ overLimit limit size = cond (ltb limit size) (refuses 1 limit) passes
 unfoldable pub bad : ℕ → Bool
 bad code = ltb 0x10FFFF code || within 0xD800 0xDFFF code
 
--- the index of the first bad code point, or the length where there is none
-unfoldable pub firstBad : List ℕ → ℕ
-firstBad [] = 0
-firstBad (code ∷ text) = cond (bad code) 0 (suc (firstBad text))
+-- the index of the first bad code point, or the length if there is none
+abbrev pub firstBad : List ℕ → ℕ
+firstBad = firstWhere bad
 
 -- 2: a bad code point; the place is the index of the first such
 unfoldable pub badCodePoint : List ℕ → Check
@@ -41,16 +41,16 @@ badCodePoint text = cond (ltb (firstBad text) (length text)) (refuses 2 (firstBa
 unfoldable pub noRoom : ℕ → ℕ → Check
 noRoom room needed = cond (ltb room needed) (refuses 3 needed) passes
 
--- the length needed where a buffer has no room for it, and 0 where it has: what a call finds out
--- before it writes
+-- 0 if a buffer has room for the length needed, else that length: what a call finds out before it
+-- writes
 unfoldable pub lacking : ℕ → ℕ → ℕ
 lacking room needed = cond (ltb room needed) needed 0
 
--- what precedes 3 where a text of code points is taken: 1, then 2
+-- what precedes 3 if a text of code points is taken: 1, then 2
 unfoldable pub takesText : List ℕ → Check
 takesText text = inOrder (overLimit 16384 (length text) ∷ badCodePoint text ∷ [])
 
--- and where a text of code units is taken, as of bytes: 1
+-- and if a text of code units is taken, as of bytes: 1
 unfoldable pub takesUnits : List ℕ → Check
 takesUnits units = overLimit 16384 (length units)
 

@@ -1,6 +1,7 @@
 -- What a call answers and what it leaves in the buffer lent to it (document 01, 'Refusal numbers'
 -- and 'What the contracts have to say'), over any elements and any values. `Fills` is the contract
--- of every call that fills a lent buffer, at that call's own `before`, `whole` and `value`.
+-- of every call that fills a lent buffer, at that call's own `before`, `whole` and `value`; the
+-- calls for C say the same by `fits` and `after`.
 use mathlib.Core.Path.{_≡_}
 use mathlib.Core.List.{List, [], _∷_}
 use Prim.Native.Nat.{ℕ}
@@ -13,7 +14,7 @@ pub data Verdict (Value : Type 0) : Type 0 where
   done : Value → Verdict Value
   refused : ℕ → ℕ → Verdict Value
 
--- the verdict where a check says so: the value if it passes
+-- the verdict of a check: the value if it passes
 abbrev pub verdict : {Value : Type 0} → Check → Value → Verdict Value
 verdict passes value = done value
 verdict (refuses number place) value = refused number place

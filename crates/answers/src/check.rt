@@ -16,7 +16,7 @@ pub fn is_bad(code: u32) -> bool
     }
 }
 
-// The index of the first bad code point, or the text's length where there is none.
+// The index of the first bad code point, or the text's length if there is none.
 pub fn first_bad(text: &[u32]) -> usize
     ensures { λ r. ⌜ r ≡ firstBad (now (text .entry)) ⌝ }
 {

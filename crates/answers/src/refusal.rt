@@ -4,7 +4,7 @@ ghost use mathlib.Core.Path.{_≡_};
 ghost use lib.ListN.{length};
 ghost use Rattle.answers.specs.Answers.{told, refusedLine};
 
-// A case for each number of the table, 1 to 7, with its place where the place varies.
+// A case for each number of the table, 1 to 7, with its place if the place varies.
 pub enum Refusal {
     // The input is over the limit, which is the place.
     OverLimit(usize),
@@ -64,7 +64,7 @@ pub fn tell(refusal: Refusal) -> Told
     }
 }
 
-// The line that a program prints where it is refused: "refused N".
+// The line that a program prints if it is refused: "refused N".
 pub fn refusal_line(refusal: Refusal) -> [u8; 10]
     ensures { λ r. ⌜ 10 ≡ length r ⌝ }
     ensures { λ r. ⌜ r ≡ refusedLine refusal ⌝ }

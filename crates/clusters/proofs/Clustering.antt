@@ -5,7 +5,7 @@
 -- no cluster; the spans in which a cluster is looked for; the search.
 use mathlib.Core.Path.{_≡_, refl, sym, _∙_, ap}
 use mathlib.Core.Bool.{Bool, true, false, _&&_, _||_, true≢false}
-use mathlib.Core.Option.{Option, none, some}
+use mathlib.Core.Option.{Option, none, some, Option·none-ne-some, Option·some-injective}
 use mathlib.Core.List.{List, [], _∷_, _++_}
 use Prim.Native.Nat.{ℕ, _+_, _≤_, _<_}
 use native.Mathlib.Omega.{arith}
@@ -20,7 +20,7 @@ use Rattle.laws.proofs.Ranges.{within-least, within-most}
 use Rattle.laws.proofs.Strings.{every-all}
 use Rattle.laws.proofs.Tables.{every}
 use Rattle.clusters.specs.Table.{Cluster, two, three, modernInitials, modernPeaks, modernFinals, oldInitials, clusters, clusterCode, lettersIn, lettersFrom, lettersOf, nowhere, placeOf}
-use Rattle.clusters.specs.Rows.{rowIn, rowBy, lettersBy}
+use Rattle.clusters.specs.Rows.{asRow, rowBy, lettersBy}
 use Rattle.clusters.specs.Gathering.{twoIn, twoOf, threeIn, threeOf}
 use Rattle.clusters.specs.Inner.{Covers, Spans, Searched, hit, miss, orZero}
 use Rattle.clusters.specs.declared.table.Row.{Row}
@@ -93,7 +93,8 @@ spanned-by k t =
 spanned-at : All (λ k. T (spanned k)) clusters
 spanned-at = every-all spanned (λ k t. t) clusters 0 all-spanned
 
--- ---- a code with two letters or more is a cluster's: what holds of every cluster of the list holds of it
+-- ---- a code with two letters or more is a cluster's: what holds of every cluster of the list
+-- holds of it
 
 module _ (P : ℕ → List ℕ → Type 0) {c a b : ℕ} {x : List ℕ} where
   listed-in : (cs : List Cluster) → All (λ k. P (clusterCode k) (lettersIn k)) cs → lettersFrom cs c ≡ a ∷ b ∷ x → P c (a ∷ b ∷ x)
@@ -137,16 +138,6 @@ module _ (c : ℕ) {a b : ℕ} {x : List ℕ} (e : lettersOf c ≡ a ∷ b ∷ x
 pub eqb-same : (n : ℕ) → eqb n n ≡ true
 eqb-same n = T-true (eqb n n) (eqb-refl n)
 
-no-some : {k : ℕ} → _≡_ {A = Option ℕ} none (some k) → ⊥
-no-some e = absurd (true≢false (ap isNone e))
-  where
-    isNone : Option ℕ → Bool
-    isNone none = true
-    isNone (some k) = false
-
-some-same : {j k : ℕ} → _≡_ {A = Option ℕ} (some j) (some k) → j ≡ k
-some-same e = ap orZero e
-
 -- none, where some would be absurd
 none-unless : (o : Option ℕ) → ((k : ℕ) → o ≡ some k → ⊥) → o ≡ none
 none-unless none h = refl
@@ -154,11 +145,11 @@ none-unless (some k) h = absurd (h k refl)
 
 module _ (a b : ℕ) where
   two-in : (cs : List Cluster) → All (λ k. lettersOf (clusterCode k) ≡ lettersIn k) cs → (c : ℕ) → twoIn cs a b ≡ some c → lettersOf c ≡ a ∷ b ∷ []
-  two-in [] p c e = absurd (no-some e)
+  two-in [] p c e = absurd (Option·none-ne-some _ e)
   two-in (two k x y ∷ cs) (also p ps) c e =
       test (eqb x a && eqb y b)
       (λ q.
-      rw (← (some-same (simp q at e)), ← (eqb-true x a (and-left (eqb x a) (eqb y b) q)), ← (eqb-true y b (and-right (eqb x a) (eqb y b) q)))
+      rw (← (Option·some-injective _ _ (simp q at e)), ← (eqb-true x a (and-left (eqb x a) (eqb y b) q)), ← (eqb-true y b (and-right (eqb x a) (eqb y b) q)))
       p)
       (λ q. two-in cs ps c (simp q at e))
   two-in (three k x y z ∷ cs) (also p ps) c e = two-in cs ps c e
@@ -166,7 +157,7 @@ module _ (a b : ℕ) where
   two-missed : (cs : List Cluster) (c : ℕ) → lettersFrom cs c ≡ a ∷ b ∷ [] → twoIn cs a b ≡ none → ⊥
   two-missed [] c e n = omega (arith, ap length e)
   two-missed (two k x y ∷ cs) c e n =
-      test (eqb x a && eqb y b) (λ q. no-some (sym (simp q at n)))
+      test (eqb x a && eqb y b) (λ q. Option·none-ne-some _ (sym (simp q at n)))
       (λ q.
       test (eqb k c) (λ r. true≢false (sym (here (simp r at e)) ∙ q)) (λ r. two-missed cs c (simp r at e) (simp q at n)))
     where
@@ -192,14 +183,14 @@ module _ (a b : ℕ) where
 
 module _ (a b d : ℕ) where
   three-in : (cs : List Cluster) → All (λ k. lettersOf (clusterCode k) ≡ lettersIn k) cs → (c : ℕ) → threeIn cs a b d ≡ some c → lettersOf c ≡ a ∷ b ∷ d ∷ []
-  three-in [] p c e = absurd (no-some e)
+  three-in [] p c e = absurd (Option·none-ne-some _ e)
   three-in (two k x y ∷ cs) (also p ps) c e = three-in cs ps c e
   three-in (three k x y z ∷ cs) (also p ps) c e =
       test (eqb x a && (eqb y b && eqb z d))
       (λ q.
       let r = and-right (eqb x a) (eqb y b && eqb z d) q in
       rw (
-        ← (some-same (simp q at e)),
+        ← (Option·some-injective _ _ (simp q at e)),
         ← (eqb-true x a (and-left (eqb x a) (eqb y b && eqb z d) q)),
         ← (eqb-true y b (and-left (eqb y b) (eqb z d) r)),
         ← (eqb-true z d (and-right (eqb y b) (eqb z d) r)),
@@ -211,7 +202,7 @@ module _ (a b d : ℕ) where
   three-missed (two k x y ∷ cs) c e n =
       test (eqb k c) (λ r. omega (arith, ap length (simp r at e))) (λ r. three-missed cs c (simp r at e) n)
   three-missed (three k x y z ∷ cs) c e n =
-      test (eqb x a && (eqb y b && eqb z d)) (λ q. no-some (sym (simp q at n)))
+      test (eqb x a && (eqb y b && eqb z d)) (λ q. Option·none-ne-some _ (sym (simp q at n)))
       (λ q.
       test (eqb k c) (λ r. true≢false (sym (here (simp r at e)) ∙ q)) (λ r. three-missed cs c (simp r at e) (simp q at n)))
     where
@@ -388,13 +379,13 @@ module _ (row : Row) (low c : ℕ) where
   searched-miss high h m = miss refl (λ k l g. m k l (omega arith))
 
 -- a code with two letters or more has their row, and one that has their row has them
-module _ {a b : ℕ} {x : List ℕ} {row : Row} (by : lettersBy row ≡ a ∷ b ∷ x) (padded : rowIn (take 3 ((a ∷ b ∷ x) ++ (0 ∷ 0 ∷ []))) ≡ row) where
+module _ {a b : ℕ} {x : List ℕ} {row : Row} (by : lettersBy row ≡ a ∷ b ∷ x) (padded : asRow (take 3 ((a ∷ b ∷ x) ++ (0 ∷ 0 ∷ []))) ≡ row) where
   row-letters : (c : ℕ) → rowBy c ≡ row → lettersOf c ≡ a ∷ b ∷ x
   row-letters c e = sym (letters-by c) ∙ ap lettersBy e ∙ by
 
   letters-row : (c : ℕ) → lettersOf c ≡ a ∷ b ∷ x → rowBy c ≡ row
   unfolding rowBy
-  letters-row c e = ap (λ (l : List ℕ). rowIn (take 3 (l ++ (0 ∷ 0 ∷ [])))) e ∙ padded
+  letters-row c e = ap (λ (l : List ℕ). asRow (take 3 (l ++ (0 ∷ 0 ∷ [])))) e ∙ padded
 
 -- THE SEARCH FINDS THE CLUSTER of two letters, and of three
 module _ {a b r : ℕ} {span : Span} (spans : Spans a b span) (second : b ≡ 0 → ⊥) where

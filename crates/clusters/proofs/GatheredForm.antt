@@ -1,4 +1,4 @@
--- Laws of gathered form. In order: a text and its clusters fall into the same groups (`groups`), so
+-- Laws of gathered form. It has: a text and its clusters fall into the same groups (`groups`), so
 -- that they are no longer and have the same simple form; A GATHERED TEXT HAS THE SIMPLE FORM IT
 -- CAME FROM (`simple-gathered`), gathering it again changes nothing, and two texts gather to the
 -- same exactly where their simple forms are the same; how long it is (`gathered-most`); a code that
@@ -14,7 +14,7 @@ use Rattle.laws.specs.Lists.{each}
 use Rattle.laws.specs.Machines.{from, Splits}
 use Rattle.laws.specs.Ranges.{within}
 use Rattle.laws.proofs.Lists.{each-one, each-alone}
-use Rattle.laws.proofs.Machines.{from-behind, from-fed}
+use Rattle.laws.proofs.Machines.{from-chained, from-fed}
 use Rattle.letters.specs.Sorts.{sortOf}
 use Rattle.letters.specs.Syllables.{isSyllable, oneStep, partsTo}
 use Rattle.letters.proofs.Steps.{step-other, syllable-below}
@@ -162,7 +162,7 @@ module _ (c : ℕ) (n : placeOf c ≡ nowhere) (y : List ℕ) where
 
 -- ---- letter by letter
 
--- the letters not yet decided, and those behind them
+-- the letters not yet decided, and those after them
 abbrev pub heldBefore : Pending → List ℕ → List ℕ
 heldBefore Nothing x = x
 heldBefore (One a) x = a ∷ x
@@ -185,22 +185,23 @@ from-gatherer (c ∷ x) Nothing = from-gatherer x (One c)
 from-gatherer (c ∷ x) (One a) = from-gatherer x (Two a c)
 from-gatherer (c ∷ x) (Two a b) = decided-from a b c x (from-gatherer x) (threeOf a b c) (twoOf a b)
 
--- and with the letters of each code point before it, and joining behind it, the gathered form
+-- and with the letters of each code point before it, and joining after it, the gathered form
 pub gathered-coded : (text : List ℕ) → from coded (Nothing, NothingOpen) text ≡ gathered text
 unfolding gathered
 gathered-coded text =
     from-fed simpleOf gathering text (Nothing, NothingOpen) ∙ ap (from gathering (Nothing, NothingOpen)) (sym (simple-each text))
-    ∙ from-behind gatherer joiner (simple text) Nothing NothingOpen ∙ ap join (from-gatherer (simple text) Nothing)
+    ∙ from-chained gatherer joiner (simple text) Nothing NothingOpen ∙ ap join (from-gatherer (simple text) Nothing)
 
--- ---- cases of document 01: three letters before two; going on behind a cluster; case 7 and case 8; longer than the text given
+-- ---- cases of document 01: three letters before two; going on after a cluster; case 7 and case 8;
+-- longer than the text given
 
 pub three-first : clustered (0x1107 ∷ 0x1109 ∷ 0x1100 ∷ []) ≡ 0x1122 ∷ []
 unfolding clustered twoOf threeOf clusters modernInitials modernPeaks modernFinals oldInitials
 three-first = refl
 
-pub behind-cluster : clustered (0x1109 ∷ 0x1107 ∷ 0x1109 ∷ 0x1100 ∷ []) ≡ 0x1132 ∷ 0x112D ∷ []
+pub after-cluster : clustered (0x1109 ∷ 0x1107 ∷ 0x1109 ∷ 0x1100 ∷ []) ≡ 0x1132 ∷ 0x112D ∷ []
 unfolding clustered twoOf threeOf clusters modernInitials modernPeaks modernFinals oldInitials
-behind-cluster = refl
+after-cluster = refl
 
 pub case-seven : gathered (0x1100 ∷ 0x1100 ∷ 0x1161 ∷ []) ≡ 0xAE4C ∷ []
 unfolding gathered simple partsTo oneStep isSyllable each lettersOf clustered twoOf threeOf clusters modernInitials modernPeaks modernFinals oldInitials pair opens roleOf sortOf within

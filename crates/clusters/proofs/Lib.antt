@@ -1,5 +1,5 @@
--- The laws of crate clusters. What a caller may cite is `pub mod`; functions' proofs have folders of
--- their own.
+-- The laws of crate clusters. What a caller may cite is `pub mod`; functions' proofs have folders
+-- of their own.
 pub mod Rule
 pub mod Rows
 pub mod SimpleForm

@@ -111,9 +111,9 @@ module _ (w : Writer) {out : List ℕ} (size : length out ≡ 14) (front : w .at
             );
       }
 
--- what was written from the front on is as long as the index behind it
+-- what was written from the front on is as long as the index after it
 pub wrote-size : {out xs out′ : List ℕ} {at r : ℕ} → at ≡ 0 → Wrote out at xs r out′ → r ≡ length xs
-wrote-size e w = omega (arith, w .behind)
+wrote-size e w = omega (arith, w .after)
 
 pub turned-length : {w : Writer} {x out : List ℕ} {r : Writer} {out′ : List ℕ} → w .at ≡ 0 → Turned w x out r out′
     → r .at ≡ length (outs gathering (stateOf w) x)

@@ -1,4 +1,4 @@
--- The table of 768 numbers, and its rows by value. In order: one test over all 256 rows, which antt
+-- The table of 768 numbers, and its rows by value. It has: one test over all 256 rows, which antt
 -- computes, and what it says of a table (`rows-right`); a row as the code reads it, inside the
 -- table and where a code is alone (`row-read`, `row-below`, `row-above`); the letters of a row by
 -- value (`by-one`, `by-two`, `by-three`), which are those of every number (`letters-by`).
@@ -21,7 +21,7 @@ use Rattle.laws.proofs.Ranges.{within-below, within-above, within-least}
 use Rattle.laws.proofs.Strings.{same-true}
 use Rattle.laws.proofs.Filling.{room-all}
 use Rattle.clusters.specs.Table.{lettersOf, clusterRow}
-use Rattle.clusters.specs.Rows.{Rows, rowIn, rowBy, lettersBy}
+use Rattle.clusters.specs.Rows.{Rows, asRow, rowBy, lettersBy}
 use Rattle.clusters.specs.declared.table.Row.{Row}
 use Rattle.clusters.proofs.Rule.{letters-least, letters-most, letters-outside, letters-nonzero}
 
@@ -51,22 +51,22 @@ in-row : (l : List ℕ) (n i : ℕ) → i < 3 → getD (take 3 (drop n l)) i 0 �
 in-row l n i h = getD-take 3 (drop n l) i 0 h ∙ getD-drop n l i 0
 
 module _ (c : ℕ) where
-  row-outside : within 0x1100 0x11FF c ≡ false → rowIn (c ∷ []) ≡ rowBy c
+  row-outside : within 0x1100 0x11FF c ≡ false → asRow (c ∷ []) ≡ rowBy c
   unfolding rowBy
   row-outside e = rw (letters-outside c e)
 
-  pub row-below : c < 0x1100 → rowIn (c ∷ []) ≡ rowBy c
+  pub row-below : c < 0x1100 → asRow (c ∷ []) ≡ rowBy c
   row-below h = row-outside (within-below 0x1100 0x11FF c h)
 
-  pub row-above : 0x11FF < c → rowIn (c ∷ []) ≡ rowBy c
+  pub row-above : 0x11FF < c → asRow (c ∷ []) ≡ rowBy c
   row-above h = row-outside (within-above 0x1100 0x11FF c h)
 
-  row-inside : {table : List ℕ} → Rows table → 0x1100 ≤ c → c ≤ 0x11FF → rowBy c ≡ rowIn (take 3 (drop (3 * (c - 0x1100)) table))
+  row-inside : {table : List ℕ} → Rows table → 0x1100 ≤ c → c ≤ 0x11FF → rowBy c ≡ asRow (take 3 (drop (3 * (c - 0x1100)) table))
   unfolding rowBy
   row-inside {table} rows l h =
       let code : 0x1100 + (c - 0x1100) ≡ c = omega arith in
       let here : take 3 (drop (3 * (c - 0x1100)) table) ≡ clusterRow c = rw code at (rows .row (c - 0x1100) (omega arith)) in
-      sym (ap rowIn here)
+      sym (ap asRow here)
 
   pub row-read : {table : List ℕ} → Rows table → 0x1100 ≤ c → c ≤ 0x11FF → record {
     first = getD table (3 * (c - 0x1100)) 0;
@@ -100,7 +100,7 @@ module _ (row : Row) where
     by-room-three n m = omega (arith, room-all room (by-three n m))
 
 -- letters that are not 0, one to three of them, are read back from the row that they make
-row-back : {x : List ℕ} → All (λ l. l ≡ 0 → ⊥) x → 1 ≤ length x → length x ≤ 3 → lettersBy (rowIn (take 3 (x ++ (0 ∷ 0 ∷ [])))) ≡ x
+row-back : {x : List ℕ} → All (λ l. l ≡ 0 → ⊥) x → 1 ≤ length x → length x ≤ 3 → lettersBy (asRow (take 3 (x ++ (0 ∷ 0 ∷ [])))) ≡ x
 row-back none h k = absurd (omega arith)
 row-back (also {a = a} p none) h k = refl
 row-back (also {a = a} p (also {a = b} q none)) h k = simp (ne-eqb b 0 q)

@@ -214,7 +214,8 @@ module _ (k : Cluster) (t : T (agrees k)) where
 pub all-found : All (λ k. lettersOf (clusterCode k) ≡ lettersIn k) clusters
 all-found = all-map found all-agree
 
--- ---- what holds of a code that is alone, and of every cluster, holds of the letters of every number
+-- ---- what holds of a code that is alone, and of every cluster, holds of the letters of every
+-- number
 
 module _ (P : ℕ → List ℕ → Type 0) (itself : (c : ℕ) → P c (c ∷ [])) where
   by-list : (cs : List Cluster) → All (λ k. P (clusterCode k) (lettersIn k)) cs → (c : ℕ) → P c (lettersFrom cs c)

@@ -22,7 +22,7 @@ use Rattle.clusters.specs.declared.gathered.Writer.{Writer}
 
 -- ---- what a machine writes of two parts of a text, and of one letter
 
--- u is the state behind x
+-- u is the state after x
 module _ {S A B : Type 0} (m : Machine S A B) (s : S) where
   outs-piece : {u : S} (x y : List A) → u ≡ ends m s x → Piece (outs m s (x ++ y)) (outs m s x) (outs m u y)
   outs-piece x y e = record { eq = rw e (outs-append m x y s) }
@@ -140,7 +140,7 @@ module _ {l xs l′ : List ℕ} {r : ℕ} (fits : length xs ≤ length l) (w : W
       rw (f .size, f .holds) (take-append-seam xs (drop (length xs) l))
 
   pub letters-fit : r ≤ length l′
-  letters-fit = omega (arith, w .behind, wrote-length w, fits)
+  letters-fit = omega (arith, w .after, wrote-length w, fits)
 
 pub turned-taken : {w : Writer} {xs ys out : List ℕ} {r : Writer} {out′ : List ℕ} → ys ≡ xs → Turned w ys out r out′ → Turned w xs out r out′
 turned-taken e t = rw e at t

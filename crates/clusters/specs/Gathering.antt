@@ -1,5 +1,5 @@
 -- Gathered form: document 01, 'Simple letters and clusters': the simple form; then, from the left
--- and going on behind each cluster, the longest run of three, else two, letters that some row lists
+-- and going on after each cluster, the longest run of three, else two, letters that some row lists
 -- becomes that cluster; then joining.
 use mathlib.Core.Bool.{cond, _&&_}
 use mathlib.Core.Option.{Option, none, some}
@@ -28,12 +28,12 @@ threeIn (three k x y z ∷ ks) a b c = cond (eqb x a && (eqb y b && eqb z c)) (s
 unfoldable pub threeOf : ℕ → ℕ → ℕ → Option ℕ
 threeOf a b c = threeIn clusters a b c
 
--- three before two before the letter alone; what follows is what stands behind three letters,
--- behind two, behind one
+-- three before two before the letter alone; what follows is what stands after three letters,
+-- after two, after one
 abbrev pub longest : Option ℕ → Option ℕ → ℕ → List ℕ → List ℕ → List ℕ → List ℕ
-longest (some k) pair a behindThree behindTwo behindOne = k ∷ behindThree
-longest none (some k) a behindThree behindTwo behindOne = k ∷ behindTwo
-longest none none a behindThree behindTwo behindOne = a ∷ behindOne
+longest (some k) pair a afterThree afterTwo afterOne = k ∷ afterThree
+longest none (some k) a afterThree afterTwo afterOne = k ∷ afterTwo
+longest none none a afterThree afterTwo afterOne = a ∷ afterOne
 
 -- THE LETTERS GATHERED INTO CLUSTERS, from the left
 unfoldable pub clustered : List ℕ → List ℕ

@@ -7,7 +7,7 @@ use mathlib.Core.Path.{_≡_}
 use mathlib.Core.Option.{Option, none, some}
 use mathlib.Core.List.{List, [], _∷_}
 use Prim.Native.Nat.{ℕ, _≤_, _<_}
-use Rattle.laws.specs.Machines.{Machine, behind, fed, outs, ends}
+use Rattle.laws.specs.Machines.{Machine, chained, fed, outs, ends}
 use Rattle.joining.specs.Joining.{joiner}
 use Rattle.joining.specs.Answers.{emitted}
 use Rattle.joining.specs.declared.joiner.Open.{Open}
@@ -81,7 +81,7 @@ pub record GatherStepped (p : Pending) (c : ℕ) (r : Gathered) : Type 0 where
 -- ---- with joining after it, and the letters of each code point before it
 
 abbrev pub gathering : Machine (Pending × Open) ℕ ℕ
-gathering = behind gatherer joiner
+gathering = chained gatherer joiner
 
 abbrev pub coded : Machine (Pending × Open) ℕ ℕ
 coded = fed simpleOf gathering

@@ -14,11 +14,11 @@ pub record Rows (table : List ℕ) : Type 0 where
   pub row : (k : ℕ) → k < 256 → take 3 (drop (3 * k) table) ≡ clusterRow (0x1100 + k)
 
 -- three numbers by value, and so the row of a code
-abbrev pub rowIn : List ℕ → Row
-rowIn row = record { first = getD row 0 0; second = getD row 1 0; third = getD row 2 0 }
+abbrev pub asRow : List ℕ → Row
+asRow row = record { first = getD row 0 0; second = getD row 1 0; third = getD row 2 0 }
 
 unfoldable pub rowBy : ℕ → Row
-rowBy c = rowIn (clusterRow c)
+rowBy c = asRow (clusterRow c)
 
 -- its letters: the first, and those of the others that are not 0
 abbrev pub unlessZero : ℕ → List ℕ → List ℕ

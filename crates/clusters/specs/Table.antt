@@ -71,7 +71,7 @@ lettersFrom (k ∷ ks) c = cond (eqb (clusterCode k) c) (lettersIn k) (lettersFr
 unfoldable pub lettersOf : ℕ → List ℕ
 lettersOf c = lettersFrom clusters c
 
--- 01's row of three numbers, with a 0 where there are fewer letters
+-- 01's row of three numbers, with a 0 if there are fewer letters
 abbrev pub clusterRow : ℕ → List ℕ
 clusterRow c = take 3 (lettersOf c ++ (0 ∷ 0 ∷ []))
 

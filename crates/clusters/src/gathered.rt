@@ -92,10 +92,10 @@ fn put_letters(
     ensures { λ r. ⌜ Turned before (take count (now (letters .entry))) (now (out .entry)) r (now (out .exit)) ⌝ }
 {
     let mut writer = before;
-    let mut read = 0;
-    while read < count {
-        writer = put_letter(writer, letters[read], table, out);
-        read += 1;
+    let mut i = 0;
+    while i < count {
+        writer = put_letter(writer, letters[i], table, out);
+        i += 1;
     }
     writer
 }
@@ -159,9 +159,9 @@ fn gathered_count(text: &[u32], table: &[u16]) -> usize
     let mut scratch = [0u32; 14];
     let mut writer = writer_at(0);
     let mut total: usize = 0;
-    let mut read = 0;
-    while read < text.len() {
-        let next = put_gathered(writer, text[read], table, &mut scratch);
+    let mut i = 0;
+    while i < text.len() {
+        let next = put_gathered(writer, text[i], table, &mut scratch);
         total += next.at;
         let pending = next.pending;
         let joiner = next.joiner;
@@ -170,7 +170,7 @@ fn gathered_count(text: &[u32], table: &[u16]) -> usize
             joiner: joiner,
             at: 0,
         };
-        read += 1;
+        i += 1;
     }
     total + put_rest(writer, table, &mut scratch)
 }

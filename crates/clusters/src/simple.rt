@@ -103,11 +103,11 @@ fn simple_count(text: &[u32], table: &[u16]) -> usize
     ensures { λ r. ⌜ r ≡ length (simple (now (text .entry))) ⌝ }
 {
     let mut count: usize = 0;
-    let mut read = 0;
-    while read < text.len() {
-        let letters = letters_of(text[read], table);
+    let mut i = 0;
+    while i < text.len() {
+        let letters = letters_of(text[i], table);
         count += letters.count;
-        read += 1;
+        i += 1;
     }
     count
 }

@@ -33,7 +33,7 @@ pub(crate) fn row_at(table: &[u16], code: u32) -> Row
     }
 }
 
-// Of a cluster its letters, of any other code itself; 0 where there are fewer. Laid out by hand, a
+// Of a cluster its letters, of any other code itself; 0 if there are fewer. Laid out by hand, a
 // row a line: `rt fmt` would give each number a line.
 const TABLE: [u16; 768] = [
     0x1100, 0, 0,

@@ -10,9 +10,9 @@ use lib.Dec.{leb}
 use lib.ListN.{length, drop}
 use lib.Seq.{take-append-seam}
 use borrow.Author.Tests.{leb-true}
-use Rattle.laws.specs.Lists.{All, none, also, each}
+use Rattle.laws.specs.Lists.{All, none, also, each, firstWhere}
 use Rattle.laws.specs.Ranges.{within}
-use Rattle.answers.specs.Checks.{Check, passes, refuses, inOrder, overLimit, bad, firstBad, badCodePoint, takesText, takesBytes, takesUnits}
+use Rattle.answers.specs.Checks.{Check, passes, refuses, inOrder, overLimit, bad, badCodePoint, takesText, takesBytes, takesUnits}
 use Rattle.answers.specs.Verdicts.{Verdict, done, verdict, after, fits, Fills}
 use Rattle.answers.proofs.Checks.{no-room-passes}
 use Rattle.letters.specs.Sorts.{sortOf}
@@ -108,7 +108,7 @@ all-hold (r ∷ rows) h =
     also (gives (r .call) (ap (λ p. p .0) (h .0)) (leb-true (length (whole (r .call))) 64 (ap (λ p. p .1) (h .0)))) (all-hold rows (h .1))
 
 pub cases : Cases
-unfolding table each within overLimit bad firstBad badCodePoint takesText takesUnits sortOf isSyllable oneStep partsTo roleOf pair opens
+unfolding table each within overLimit bad firstWhere badCodePoint takesText takesUnits sortOf isSyllable oneStep partsTo roleOf pair opens
     rowIn initials peaks finals prefix nameBy named namedFrom noSyllable modernInitials modernPeaks modernFinals oldInitials clusters
     lettersOf simple twoOf threeOf clustered gathered pairs asInitial asPeak asFinal groupOf turned
 cases =

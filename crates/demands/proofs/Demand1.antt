@@ -1,5 +1,5 @@
--- The general laws behind demand 1: a call that answers by its checks in order, and leaves its
--- buffer by them, keeps the demand; and the demand leaves it no choice.
+-- The general laws on which demand 1 rests: a call that answers by its checks in order, and leaves
+-- its buffer by them, keeps the demand; and the demand leaves it no choice.
 --
 -- In order: what is left by a check (`kept`, `after-kept`); FROM THE CONTRACT TO THE DEMAND
 -- (`demanded`): of a call that is lent nothing (`answered`, `answered-one`), that fills a lent

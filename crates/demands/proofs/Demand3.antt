@@ -34,6 +34,6 @@ pub beginnings-place : BeginningsPlace
 beginnings-place = beginning-at form8
 
 pub around-ill-formed : AroundIllFormed
-around-ill-formed text v before subpart behind r m =
-    m .is ∙ call-around text before subpart behind (sym (reading-in-unique encodes8 r)) (m .call)
-    ∙ ap (λ (x : List ℕ). mended (unitsOf before) ++ (x ++ mended (unitsOf behind))) mark-bytes
+around-ill-formed text v before subpart after r m =
+    m .is ∙ call-around text before subpart after (sym (reading-in-unique encodes8 r)) (m .call)
+    ∙ ap (λ (x : List ℕ). mended (unitsOf before) ++ (x ++ mended (unitsOf after))) mark-bytes

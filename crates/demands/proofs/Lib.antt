@@ -1,5 +1,4 @@
--- The laws of crate demands. What a caller may cite is `pub mod`; functions' proofs have folders of
--- their own.
+-- The laws of crate demands. What a caller may cite is `pub mod`.
 pub mod Accident
 pub mod Demand1
 pub mod Demand2

@@ -46,7 +46,7 @@ abbrev pub given : {Value : Type 0} → (Value → ℕ) → Verdict Value → Li
 given size (done value) out = done (take (size value) out)
 given size (refused number place) out = refused number place
 
--- and one that answers a number: the number numberAlone
+-- and one that answers a number: that number alone
 abbrev pub numberAlone : Verdict ℕ → Verdict (List ℕ)
 numberAlone (done value) = done (value ∷ [])
 numberAlone (refused number place) = refused number place

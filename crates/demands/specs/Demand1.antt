@@ -23,7 +23,7 @@ Pass (passes ∷ checks) = Pass checks
 Pass (refuses n p ∷ checks) = ⊥
 
 -- DEMAND 1 OF ONE CALL: `checks` are document 01's, in its order, at this call's input; `value` is
--- what the call answers where none refuses, and `filled` what the lent buffer then holds. `lent` is
+-- what the call answers if none refuses, and `filled` what the lent buffer then holds. `lent` is
 -- the buffer before the call, `lent′` the buffer after it, and `answer` the answer. A call that is
 -- lent nothing to write has [] for each buffer.
 pub record Demand1 {Value A : Type 0} (checks : List Check) (value : Value) (lent filled : List A) (answer : Verdict Value) (lent′ : List A) : Type 0 where
@@ -32,6 +32,6 @@ pub record Demand1 {Value A : Type 0} (checks : List Check) (value : Value) (len
   pub gives : (number place : ℕ) → (answer ≡ refused number place) ↔ First checks number place
   -- "and changes nothing that was lent"
   pub keeps : (number place : ℕ) → answer ≡ refused number place → lent′ ≡ lent
-  -- where no check refuses, the call is done: what it answers, and what the buffer holds
+  -- if no check refuses, the call is done: what it answers, and what the buffer holds
   pub answers : Pass checks → answer ≡ done value
   pub fills : Pass checks → lent′ ≡ filled

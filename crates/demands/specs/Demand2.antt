@@ -105,7 +105,7 @@ NameRead =
     (s : ℕ) (name out out′ : List ℕ) (r : Filled) → ReadsName name (Syllable s) → length name ≤ length out → Names s out r out′
     → (r ≡ Done (length name)) × (out′ ≡ front name out)
 
--- and each of the 11,172 is named, where there is room for 23 bytes
+-- and each of the 11,172 is named, if there is room for 23 bytes
 abbrev pub AllNamed : Type 0
 AllNamed =
     (index : ℕ) → index ≤ 11171 → (out out′ : List ℕ) (r : Filled) → 23 ≤ length out → Names (0xAC00 + index) out r out′

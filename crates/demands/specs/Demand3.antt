@@ -9,7 +9,7 @@
 -- the joined text is what joining all before it gives, then one FFFD, then what joining all behind
 -- it gives." Statements over calls of mending that are done, whatever room they were given: a call
 -- within the limit and with three bytes for each is (`IsDone`), and so is one with just the room
--- that it needs (demand 1's row for it, crate demands). Nothing is proved here.
+-- that it needs (demand 1's row for it, specs/Calls). Nothing is proved here.
 use mathlib.Core.Path.{_≡_}
 use mathlib.Core.List.{List, [], _∷_, _++_}
 use Prim.Native.Nat.{ℕ, _*_, _≤_}
@@ -52,5 +52,5 @@ BeginningsPlace = (beginning : List ℕ) → BeginningFound utf8 joinedBytes beg
 -- subpart of the text's reading, the three bytes of FFFD
 abbrev pub AroundIllFormed : Type 0
 AroundIllFormed =
-    (text v : List ℕ) (before : List (Piece ℕ)) (subpart : List ℕ) (behind : List (Piece ℕ)) → Reading kindOf text (before ++ ill subpart ∷ behind)
-    → Mended text v → v ≡ mended (unitsOf before) ++ ((0xEF ∷ 0xBF ∷ 0xBD ∷ []) ++ mended (unitsOf behind))
+    (text v : List ℕ) (before : List (Piece ℕ)) (subpart : List ℕ) (after : List (Piece ℕ)) → Reading kindOf text (before ++ ill subpart ∷ after)
+    → Mended text v → v ≡ mended (unitsOf before) ++ ((0xEF ∷ 0xBF ∷ 0xBD ∷ []) ++ mended (unitsOf after))

@@ -1,7 +1,7 @@
--- The demands over the calls that the drawing program makes, from C. What such a call does where it
+-- The demands over the calls that the drawing program makes, from C. What such a call does if it
 -- refuses nothing is what the call below it does (`MendedFromC`, `NamedFromC`, `ReadFromC`), so
--- that what crate demands says of that call holds of it; and what the header promises beside that:
--- one boat, the count, a name read back, an order to sort by. Statements over any results that the
+-- that what specs/Accident, Demand2 and Demand3 say of that call holds of it; and what the header
+-- promises beside that: one boat, the count, a name read back, an order to sort by. Statements over any results that the
 -- contracts of the calls for C admit; nothing is proved here.
 use mathlib.Core.Path.{_≡_}
 use mathlib.Core.Bool.{false}
@@ -24,7 +24,7 @@ use Rattle.demands.specs.Accident.{Mended}
 
 -- ---- mending
 
--- what `pulphopper_mend` wrote where it refused nothing is what mending wrote: the accident and
+-- what `pulphopper_mend` wrote if it refused nothing is what mending wrote: the accident and
 -- demand 3 speak of it
 abbrev pub MendedFromC : Type 0
 MendedFromC = (text out out′ : List ℕ) (r : Answer) → Mends text out r out′ → r .refusal ≡ 0 → Mended text (take (r .value) out′)

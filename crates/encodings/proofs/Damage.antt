@@ -35,7 +35,7 @@ module _ {A B : Type 0} (e : Encoding A) (m : Transformation B) where
   beginning-is b = by (beginning-place e m b)
     where
       by : BeginningFound e m b → StartsWith b (beginning e m b)
-      by (found p) = (p .last ++ unitsOf (p .behind), p .text)
+      by (found p) = (p .last ++ unitsOf (p .after), p .text)
       by (none h q) = (b, rw q)
 
 -- ---- where mending may be cut
@@ -63,7 +63,7 @@ module _ {A B : Type 0} (e : Encoding A) (m : Transformation B) (cuttable : Cutt
       at : BeginningPlace e m b → StartsWith (mend e m (b ++ y)) (mend e m (beginning e m b))
       at p =
           let P = pieces (e .kind) (beginning e m b) in
-          let k = kept (e .kind) b y P (p .last) (p .behind) (p .read) in
+          let k = kept (e .kind) b y P (p .last) (p .after) (p .read) in
           let apart = cuttable .cuts (e .code (p .last)) (p .hard) (codes e (k .0)) (codes e P) in
           (m .make (codes e (good (p .last) ∷ k .0)), rw (mend, k .1, codes-append e P (good (p .last) ∷ k .0)) apart)
 
@@ -78,8 +78,8 @@ module _ {A B : Type 0} (e : Encoding A) (m : Transformation B) (cuttable : Cutt
       → (t ≡ unitsOf P ++ (u ++ unitsOf Q)) × (mend e m t ≡ mend e m (unitsOf P) ++ (m .make (0xFFFD ∷ []) ++ mend e m (unitsOf Q)))
   around-ill t P u Q q =
       let h = seam (e .kind) t P (ill u ∷ Q) q in
-      let k = seam (e .kind) (unitsOf (ill u ∷ Q)) (ill u ∷ []) Q (h .behind) in
-      (h .text, rw (mend, q, h .before, k .behind, codes-append e P (ill u ∷ Q), cuttable .alone (codes e P) (codes e Q)))
+      let k = seam (e .kind) (unitsOf (ill u ∷ Q)) (ill u ∷ []) Q (h .after) in
+      (h .text, rw (mend, q, h .before, k .after, codes-append e P (ill u ∷ Q), cuttable .alone (codes e P) (codes e Q)))
 
 module _ {A B : Type 0} (e : Encoding A) (m : Transformation B) (leads : Leads e) (cuttable : Cuttable m) where
   -- ---- THE ENDING

@@ -79,9 +79,9 @@ module _ {A B : Type 0} (e : Encoding A) (m : Transformation B) where
         unled = s .unled;
         led = s .led;
         sought = h .text;
-        read = rw (h .behind) (k .split);
+        read = rw (h .after) (k .split);
         all-soft = k .all-soft;
-        at = rw (h .behind) (k .at);
+        at = rw (h .after) (k .at);
       }
 
   -- there is nothing after it exactly where all that is read is soft
@@ -101,7 +101,7 @@ record Last {A : Type 0} (soft : List A → Bool) (P : List (Piece A)) : Type 0 
   rest : List (Piece A)
   split : P ≡ upto soft P ++ good last ∷ rest
   hard : soft last ≡ false
-  none-behind : stands soft rest ≡ false
+  none-after : stands soft rest ≡ false
 
 module _ {A : Type 0} (soft : List A → Bool) where
   later : (w : Piece A) (P : List (Piece A)) → stands soft P ≡ true → Last soft P → Last soft (w ∷ P)
@@ -110,13 +110,13 @@ module _ {A : Type 0} (soft : List A → Bool) where
     rest = l .rest;
     split = rw q (ap (λ (x : List (Piece A)). w ∷ x) (l .split));
     hard = l .hard;
-    none-behind = l .none-behind;
+    none-after = l .none-after;
   }
 
   here : (w : Piece A) (P : List (Piece A)) → stands soft P ≡ false → stands soft (w ∷ P) ≡ true → Last soft (w ∷ P)
   here (ill u) P q h = absurd (false≢true (sym q ∙ h))
   here (good u) P q h =
-      record { last = u; rest = P; split = rw q; hard = not-true (soft u) (or-only (not (soft u)) (stands soft P) h q); none-behind = q }
+      record { last = u; rest = P; split = rw q; hard = not-true (soft u) (or-only (not (soft u)) (stands soft P) h q); none-after = q }
 
   last-stands : (P : List (Piece A)) → stands soft P ≡ true → Last soft P
   last-stands [] h = absurd (false≢true h)
@@ -150,9 +150,9 @@ module _ {A B : Type 0} (e : Encoding A) (m : Transformation B) where
           let h = seam (e .kind) b (upto (softUnits e m) P) (good (l .last) ∷ l .rest) (l .split) in
           record {
             last = l .last;
-            behind = l .rest;
+            after = l .rest;
             text = h .text;
             read = rw (h .before) (l .split);
             hard = l .hard;
-            none-behind = none-hard (l .rest) (l .none-behind);
+            none-after = none-hard (l .rest) (l .none-after);
           }

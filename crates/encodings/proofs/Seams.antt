@@ -18,7 +18,7 @@ use Rattle.encodings.proofs.Pieces.{unitsOf-pieces}
 pub record Halves {A : Type 0} (kind : List A → Kind) (t : List A) (P Q : List (Piece A)) : Type 0 where
   pub text : t ≡ unitsOf P ++ unitsOf Q
   pub before : pieces kind (unitsOf P) ≡ P
-  pub behind : pieces kind (unitsOf Q) ≡ Q
+  pub after : pieces kind (unitsOf Q) ≡ Q
 
 -- ---- the seam's place, found unit by unit
 
@@ -29,7 +29,7 @@ record Seam {A : Type 0} (kind : List A → Kind) (E : List (Piece A)) (n t : Li
   back : List A
   joined : t ≡ front ++ back
   before : E ++ from (cutter kind) n front ≡ P
-  behind : pieces kind back ≡ Q
+  after : pieces kind back ≡ Q
 
 module _ {A : Type 0} (kind : List A → Kind) (t : List A) (Q : List (Piece A)) where
   -- what is shown of every text, by recursion on it: P is not empty, since n may be open where P
@@ -40,16 +40,16 @@ module _ {A : Type 0} (kind : List A → Kind) (t : List A) (Q : List (Piece A))
   -- a piece more in front
   with-piece : (w : Piece A) (E : List (Piece A)) (n : List A) (P : List (Piece A)) → Seam kind E n t P Q → Seam kind (w ∷ E) n t (w ∷ P) Q
   with-piece w E n P s =
-      record { front = s .front; back = s .back; joined = s .joined; before = ap (λ (x : List (Piece A)). w ∷ x) (s .before); behind = s .behind }
+      record { front = s .front; back = s .back; joined = s .joined; before = ap (λ (x : List (Piece A)). w ∷ x) (s .before); after = s .after }
 
   -- a unit more in front
   with-unit : (n : List A) (a : A) (P : List (Piece A)) → Seam kind (cutEmit kind n a) (cutStep kind n a) t P Q → Seam kind [] n (a ∷ t) P Q
   with-unit n a P s =
-      record { front = a ∷ s .front; back = s .back; joined = ap (λ (x : List A). a ∷ x) (s .joined); before = s .before; behind = s .behind }
+      record { front = a ∷ s .front; back = s .back; joined = ap (λ (x : List A). a ∷ x) (s .joined); before = s .before; after = s .after }
 
   -- a piece w is made and nothing is open
   closed : Found → (w u : Piece A) (P : List (Piece A)) → w ∷ pieces kind t ≡ u ∷ P ++ Q → Seam kind (w ∷ []) [] t (u ∷ P) Q
-  closed found w u [] e = record { front = []; back = t; joined = refl; before = cc; behind = cc }
+  closed found w u [] e = record { front = []; back = t; joined = refl; before = cc; after = cc }
   closed found w u (v ∷ P) e =
       let same : w ≡ u = cc in
       rw (← same) (with-piece w [] [] (v ∷ P) (found [] v P (cc)))
@@ -68,7 +68,7 @@ module _ {A : Type 0} (kind : List A → Kind) (t : List A) (Q : List (Piece A))
   next found b p a part q u P e = with-unit (b ∷ p) a (u ∷ P) (rw q (found (b ∷ p ++ (a ∷ [])) u P (rw q at e)))
   next found b p a bad q u [] e =
       let e′ : ill (b ∷ p) ∷ pieces kind (a ∷ t) ≡ u ∷ Q = rw q at e in
-      record { front = []; back = a ∷ t; joined = refl; before = cc; behind = cc }
+      record { front = []; back = a ∷ t; joined = refl; before = cc; after = cc }
   next found b p a bad q u (v ∷ P) e =
       let e′ : ill (b ∷ p) ∷ pieces kind (a ∷ t) ≡ u ∷ (v ∷ P ++ Q) = rw q at e in
       let same : ill (b ∷ p) ≡ u = cc in
@@ -80,7 +80,7 @@ module _ {A : Type 0} (kind : List A → Kind) where
   find [] Q [] u P e = absurd (nil≢cons e)
   find [] Q (b ∷ p) u P e =
       let none : P ++ Q ≡ [] = cc in
-      record { front = []; back = []; joined = refl; before = cc (nil-left P Q none); behind = sym (nil-right P Q none) }
+      record { front = []; back = []; joined = refl; before = cc (nil-left P Q none); after = sym (nil-right P Q none) }
   find (a ∷ t) Q [] u P e = with-unit kind t Q [] a (u ∷ P) (first kind t Q (find t Q) (kind (a ∷ [])) a u P e)
   find (a ∷ t) Q (b ∷ p) u P e = next kind t Q (find t Q) b p a (kind (b ∷ p ++ (a ∷ []))) refl u P e
 
@@ -89,12 +89,12 @@ module _ {A : Type 0} (kind : List A → Kind) where
   pub seam : (t : List A) (P Q : List (Piece A)) → pieces kind t ≡ P ++ Q → Halves kind t P Q
   seam t [] Q e =
       let h : unitsOf Q ≡ t = rw e at (unitsOf-pieces kind t) in
-      record { text = sym h; before = refl; behind = rw h e }
+      record { text = sym h; before = refl; after = rw h e }
   seam t (u ∷ P) Q e =
       let s : Seam kind [] [] t (u ∷ P) Q = find t Q [] u P e in
       let h₁ : unitsOf (u ∷ P) ≡ s .front = rw (s .before) at (unitsOf-pieces kind (s .front)) in
-      let h₂ : unitsOf Q ≡ s .back = rw (s .behind) at (unitsOf-pieces kind (s .back)) in
-      record { text = rw (h₁, h₂) (s .joined); before = rw h₁ (s .before); behind = rw h₂ (s .behind) }
+      let h₂ : unitsOf Q ≡ s .back = rw (s .after) at (unitsOf-pieces kind (s .back)) in
+      record { text = rw (h₁, h₂) (s .joined); before = rw h₁ (s .before); after = rw h₂ (s .after) }
 
   -- ---- THE KEEPING LAW
 

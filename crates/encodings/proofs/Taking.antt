@@ -1,4 +1,4 @@
--- What begins at an index of a text of units. In order: a unit at an index (`nonzero-inside`); in
+-- What begins at an index of a text of units. It has: a unit at an index (`nonzero-inside`); in
 -- an encoding by rows, a sequence that is begun and not yet whole (`Stands`: the units a ∷ x are
 -- open, and the row goes on with `row`), from its first unit (`begins-between`, `begun`) on with
 -- each unit in range (`goes-on`), to its last one (`whole-taken`) or to a unit out of range or the
@@ -154,7 +154,7 @@ module _ (f : Form) where
     split = rw append-nil at (halves .text)
 
     pub pieces-after : piecesIn f (drop (at + length (units w)) text) ≡ P
-    pieces-after = rw (← (drop-drop (length (units w)) at text), split, drop-append-seam) (halves .behind)
+    pieces-after = rw (← (drop-drop (length (units w)) at text), split, drop-append-seam) (halves .after)
 
     some-units : (u : List ℕ) → units w ≡ u → 1 ≤ length u
     some-units [] q = absurd (nil≢cons (rw (append-nil, q) at (halves .before)))

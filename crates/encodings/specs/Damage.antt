@@ -86,7 +86,7 @@ beginning e m b = unitsOf (upto (softUnits e m) (pieces (e .kind) b))
 -- ---- the statement, and what it asks for
 
 -- a text that begins with b and ends with z, whatever c stands between them: mended, it ends with
--- what mending z from its place gives, and starts with what mending b up to its place gives. Where
+-- what mending z from its place gives, and starts with what mending b up to its place gives. If
 -- there is no such place, that is nothing
 pub record Kept {A B : Type 0} (e : Encoding A) (m : Transformation B) (b c z : List A) : Type 0 where
   pub ends : EndsWith (mend e m (b ++ c ++ z)) (mend e m (ending e m z))

@@ -43,8 +43,8 @@ left full u = []
 left part u = u
 left bad u = []
 
--- the same where p is open and a comes: k is the kind of p with a, and k₁ that of a alone. Where a
--- does not go on, p is ill-formed and a begins anew
+-- the same if p is open and a comes: k is the kind of p with a, and k₁ that of a alone. If a does
+-- not go on, p is ill-formed and a begins anew
 abbrev pub madeAt : {A : Type 0} → Kind → Kind → List A → A → List (Piece A)
 madeAt full k₁ p a = good (p ++ (a ∷ [])) ∷ []
 madeAt part k₁ p a = []

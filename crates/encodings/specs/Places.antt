@@ -61,11 +61,11 @@ module _ {A B : Type 0} (e : Encoding A) (m : Transformation B) where
   -- one
   pub record BeginningPlace (b : List A) : Type 0 where
     pub last : List A
-    pub behind : List (Piece A)
-    pub text : b ≡ beginning e m b ++ (last ++ unitsOf behind)
-    pub read : pieces (e .kind) b ≡ pieces (e .kind) (beginning e m b) ++ good last ∷ behind
+    pub after : List (Piece A)
+    pub text : b ≡ beginning e m b ++ (last ++ unitsOf after)
+    pub read : pieces (e .kind) b ≡ pieces (e .kind) (beginning e m b) ++ good last ∷ after
     pub hard : softUnits e m last ≡ false
-    pub none-behind : All (λ w. IsHard e m w → ⊥) behind
+    pub none-after : All (λ w. IsHard e m w → ⊥) after
 
   -- there is such a place, or b has no such character at all
   pub data BeginningFound (b : List A) : Type 0 where

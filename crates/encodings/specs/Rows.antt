@@ -24,7 +24,7 @@ follows [] (b ∷ x) = bad
 follows (r ∷ row) [] = part
 follows ((lo to hi) ∷ row) (b ∷ x) = cond (within lo hi b) (follows row x) bad
 
--- the same with the row that the first unit picks, where there is one
+-- the same with the row that the first unit picks, if there is one
 abbrev pub inRow : Option (List Units) → List ℕ → Kind
 inRow none x = bad
 inRow (some row) x = follows row x

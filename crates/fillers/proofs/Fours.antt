@@ -8,12 +8,11 @@ use mathlib.Core.Logic.{_↔_}
 use mathlib.Core.Option.{Option, none, some, Option·none-ne-some}
 use mathlib.Core.List.{List, [], _∷_}
 use Prim.Native.Nat.{ℕ, _+_, _-_, _≤_, _<_}
-use native.Mathlib.Numerals.{add-one}
 use native.Mathlib.Omega.{arith}
 use lib.Dec.{eqb}
 use lib.ListN.{length, getD, drop, length-drop}
-use lib.Seq.{drop-cons}
 use borrow.Author.Tests.{eqb-true, eqb-false}
+use Rattle.laws.proofs.Lists.{four-at}
 use Rattle.letters.specs.Syllables.{isSyllable}
 use Rattle.letters.proofs.Steps.{syllable, syllable-made}
 use Rattle.fillers.specs.Groups.{asInitial, asPeak, asFinal, meaningOf, groupOf}
@@ -107,9 +106,6 @@ few (d ∷ a ∷ []) h = refl
 few (d ∷ a ∷ b ∷ []) h = refl
 few (d ∷ a ∷ b ∷ c ∷ x) h = absurd (omega arith)
 
-next : (text : List ℕ) (i j : ℕ) → i + 1 ≡ j → i < length text → drop i text ≡ getD text i 0 ∷ drop j text
-next text i j e h = rw (← e, add-one) (drop-cons text i 0 h)
-
 module _ (text : List ℕ) (at : ℕ) where
   pub short-here : length text - at < 4 → 0 ≡ syllableIn (groupAt (drop at text))
   short-here h = sym (ap syllableIn (few (drop at text) (simp length-drop h)))
@@ -119,16 +115,8 @@ module _ (text : List ℕ) (at : ℕ) where
   GroupHere s = Group (getD text at 0) (getD text (at + 1) 0) (getD text (at + 2) 0) (getD text (at + 3) 0) s
 
   module _ (long : 4 ≤ length text - at) where
-    four-here : drop at text ≡ getD text at 0 ∷ getD text (at + 1) 0 ∷ getD text (at + 2) 0 ∷ getD text (at + 3) 0 ∷ drop (at + 4) text
-    four-here =
-        let one = next text at (at + 1) (omega arith) (omega arith) in
-        let two = next text (at + 1) (at + 2) (omega arith) (omega arith) in
-        let three = next text (at + 2) (at + 3) (omega arith) (omega arith) in
-        let four = next text (at + 3) (at + 4) (omega arith) (omega arith) in
-        rw (one, two, three, four)
-
     pub no-group-here : ((s : ℕ) → GroupHere s → ⊥) → 0 ≡ syllableIn (groupAt (drop at text))
-    no-group-here n = sym (ap syllableIn (ap groupAt four-here ∙ group-otherwise _ _ _ _ .1 n))
+    no-group-here n = sym (ap syllableIn (ap groupAt (four-at 0 text at (omega arith)) ∙ group-otherwise _ _ _ _ .1 n))
 
     pub group-here : {s : ℕ} → GroupHere s → s ≡ syllableIn (groupAt (drop at text))
-    group-here {s} g = sym (ap syllableIn (ap groupAt four-here ∙ group-exactly _ _ _ _ s .1 g))
+    group-here {s} g = sym (ap syllableIn (ap groupAt (four-at 0 text at (omega arith)) ∙ group-exactly _ _ _ _ s .1 g))

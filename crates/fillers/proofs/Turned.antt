@@ -7,13 +7,12 @@ use mathlib.Core.Bool.{false}
 use mathlib.Core.Option.{Option, none, some}
 use mathlib.Core.List.{List, [], _∷_}
 use Prim.Native.Nat.{ℕ, _+_, _*_, _≤_, _<_}
-use native.Mathlib.Numerals.{add-one}
 use native.Mathlib.Omega.{arith}
 use lib.ListN.{length, getD, drop, length-drop, drop-of-length-le}
-use lib.Seq.{drop-cons, drop-drop}
+use lib.Seq.{drop-drop}
 use Rattle.laws.specs.Ranges.{within}
 use Rattle.laws.specs.Lists.{All, also}
-use Rattle.laws.proofs.Lists.{all-right}
+use Rattle.laws.proofs.Lists.{at-index, all-right}
 use Rattle.laws.proofs.Filling.{Piece, Filling, filling-count, filling-length}
 use Rattle.answers.specs.Checks.{bad}
 use Rattle.answers.proofs.Checks.{good-low}
@@ -50,8 +49,8 @@ module _ (P : List ℕ → List ℕ → Type 0) (nothing : P [] []) (copied : (d
     where
       by : (o : Option (List ℕ)) → Meant d a b c o → P x (turned x) → P (a ∷ b ∷ c ∷ x) (turned (a ∷ b ∷ c ∷ x))
           → P (d ∷ a ∷ b ∷ c ∷ x) (turnedBy o d (turned x) (turned (a ∷ b ∷ c ∷ x)))
-      by _ (turns {s} g) behind next = group d a b c s x (turned x) g behind
-      by _ (stays n) behind next = copied d _ _ next
+      by _ (turns {s} g) after next = group d a b c s x (turned x) g after
+      by _ (stays n) after next = copied d _ _ next
 
 -- a text with no filler comes back unchanged
 abbrev NoFiller : ℕ → Type 0
@@ -90,7 +89,8 @@ turned-good {x} = turned-by (λ x y. All Good x → All Good y) (λ p. p) copied
     group : (d a b c s : ℕ) (x y : List ℕ) → Group d a b c s → (All Good x → All Good y) → All Good (d ∷ a ∷ b ∷ c ∷ x) → All Good (s ∷ y)
     group d a b c s x y g good p = also (made-good g) (good (all-right (d ∷ a ∷ b ∷ c ∷ []) x p))
 
--- ---- document 01's case 11, by computation: 3164 3131 314F 3164 is AC00; 3164 3131 314F 3138 stays
+-- ---- document 01's case 11, by computation: 3164 3131 314F 3164 is AC00; 3164 3131 314F 3138
+-- stays
 
 pub turned-ga : turned (0x3164 ∷ 0x3131 ∷ 0x314F ∷ 0x3164 ∷ []) ≡ 0xAC00 ∷ []
 unfolding turned groupOf asInitial asPeak asFinal pairs within
@@ -117,7 +117,7 @@ no-group-turned d (a ∷ b ∷ c ∷ x) e = by (groupOf d a b c) (group-meant d 
 -- a group found is four code points long, and the search goes on after them
 record Begins (s : ℕ) (x : List ℕ) : Type 0 where
   long : 4 ≤ length x
-  behind : turned x ≡ s ∷ turned (drop 4 x)
+  after : turned x ≡ s ∷ turned (drop 4 x)
 
 group-begins : {s : ℕ} → (s ≡ 0 → ⊥) → (x : List ℕ) → s ≡ syllableIn (groupAt x) → Begins s x
 unfolding turned
@@ -125,7 +125,7 @@ group-begins n [] e = absurd (n e)
 group-begins n (d ∷ []) e = absurd (n e)
 group-begins n (d ∷ a ∷ []) e = absurd (n e)
 group-begins n (d ∷ a ∷ b ∷ []) e = absurd (n e)
-group-begins {s} n (d ∷ a ∷ b ∷ c ∷ x) e = record { long = omega arith; behind = by (groupOf d a b c) (group-meant d a b c) e }
+group-begins {s} n (d ∷ a ∷ b ∷ c ∷ x) e = record { long = omega arith; after = by (groupOf d a b c) (group-meant d a b c) e }
   where
     by : (o : Option (List ℕ)) → Meant d a b c o → s ≡ syllableIn o → turnedBy o d (turned x) (turned (a ∷ b ∷ c ∷ x)) ≡ s ∷ turned x
     by _ (turns g) e = rw e
@@ -134,11 +134,11 @@ group-begins {s} n (d ∷ a ∷ b ∷ c ∷ x) e = record { long = omega arith; 
 module _ (text : List ℕ) (read : ℕ) (inside : read < length text) {s : ℕ} (found : s ≡ syllableIn (groupAt (drop read text))) where
   pub copied-piece : s ≡ 0 → Piece (turned (drop read text)) (getD text read 0 ∷ []) (turned (drop (read + 1) text))
   copied-piece e =
-      let next : drop read text ≡ getD text read 0 ∷ drop (read + 1) text = rw add-one (drop-cons text read 0 inside) in
+      let next : drop read text ≡ getD text read 0 ∷ drop (read + 1) text = at-index 0 text read inside in
       record { eq = rw next (no-group-turned (getD text read 0) (drop (read + 1) text) (rw next at (sym e ∙ found))) }
 
   pub group-piece : (s ≡ 0 → ⊥) → Piece (turned (drop read text)) (s ∷ []) (turned (drop (read + 4) text))
-  group-piece n = record { eq = group-begins n (drop read text) found .behind ∙ rw drop-drop }
+  group-piece n = record { eq = group-begins n (drop read text) found .after ∙ rw drop-drop }
 
   pub group-inside : (s ≡ 0 → ⊥) → read + 4 ≤ length text
   group-inside n = omega (arith, simp length-drop at (group-begins n (drop read text) found .long))

@@ -53,7 +53,7 @@ meaningOf (some i) (some p) (some f) = some ((0xAC00 + i * 588 + p * 28 + f) ∷
 unfoldable pub groupOf : ℕ → ℕ → ℕ → ℕ → Option (List ℕ)
 groupOf d a b c = cond (eqb d 0x3164) (meaningOf (asInitial a) (asPeak b) (asFinal c)) none
 
--- THE TEXT WITH ITS GROUPS TURNED: from the left, going on after each group; where none begins, one
+-- THE TEXT WITH ITS GROUPS TURNED: from the left, going on after each group; if none begins, one
 -- code point is copied. `after` is what follows the group, turned; `copied` is what follows the one
 -- code point, turned
 abbrev pub turnedBy : Option (List ℕ) → ℕ → List ℕ → List ℕ → List ℕ

@@ -82,7 +82,8 @@ once c = rw (opens-as c refl) (by (roleOf c))
 pub stays-open : (a b : ℕ) → (pair a b ≡ 0 → ⊥) → unless (opens a) a ≡ []
 stays-open a b n = by-pair a b (λ p q. rw (opens-as a p)) (λ p q. rw (opens-as a p)) (λ z. absurd (n z))
 
--- ---- the joined text with no machine: two neighbours at the front that join are as their pair; of two that do not, the first stays as it is
+-- ---- the joined text with no machine: two neighbours at the front that join are as their pair; of
+-- two that do not, the first stays as it is
 
 pub join-one : (c : ℕ) → join (c ∷ []) ≡ c ∷ []
 join-one c = once c
@@ -93,7 +94,7 @@ join-joined a b x n = rw (stays-open a b n, meets-pair a b, ne-eqb _ _ n)
 pub join-apart : (a b : ℕ) (x : List ℕ) → pair a b ≡ 0 → join (a ∷ b ∷ x) ≡ a ∷ join (b ∷ x)
 join-apart a b x z = rw (meets-pair a b, z, append-assoc (held (opens a)), ← (append-assoc (unless (opens a) a)), once a)
 
--- what joins with nothing behind it stays as it is
+-- what joins with nothing after it stays as it is
 pub join-closed : (a : ℕ) (x : List ℕ) → ((b : ℕ) → pair a b ≡ 0) → join (a ∷ x) ≡ a ∷ join x
 join-closed a [] h = join-one a
 join-closed a (b ∷ x) h = join-apart a b x (h b)
@@ -169,7 +170,7 @@ mark-role = role-between 0xD7A4 0x10FFFF 0xFFFD tt (omega arith) (omega arith)
 pub mark-wall : Wall joiner 0xFFFD
 mark-wall = none-wall 0xFFFD mark-role
 
--- around it: what all before it joins to, itself, what all behind it joins to
+-- around it: what all before it joins to, itself, what all after it joins to
 pub mark-around : (x y : List ℕ) → join (x ++ 0xFFFD ∷ y) ≡ join x ++ 0xFFFD ∷ join y
 mark-around x y = around joiner 0xFFFD x y mark-wall ∙ rw (opens-as 0xFFFD mark-role)
 

@@ -2,7 +2,7 @@
 -- where the one step of s is a and b.
 --
 -- In order: by roles (`pair-as`, `pair-lv`, `pair-lvt`, `by-pair`, `pair-other`, `pair-before`,
--- `pair-firm`, `pair-behind`, `pair-none`); by numbers (`two-letters`, `lv-letter`,
+-- `pair-firm`, `pair-after`, `pair-none`); by numbers (`two-letters`, `lv-letter`,
 -- `three-letters`); what two that join make (`lv-made`, `lvt-made`, `pair-syllable`, `pair-good`);
 -- the pair law (`pair-step`, `step-pair`, `pair-law`, `by-parts`, `pair-parts`); what joins with
 -- nothing more (`lvt-closed`, `no-fourth`, `a7-no-final`).
@@ -62,15 +62,15 @@ module _ (a b : ℕ) where
   pub pair-other : (roleOf a ≡ RoleInitial → roleOf b ≡ Peak → ⊥) → (roleOf a ≡ RoleLv → roleOf b ≡ Final → ⊥) → pair a b ≡ 0
   pair-other m n = by-pair (λ p q. absurd (m p q)) (λ p q. absurd (n p q)) (λ z. z)
 
-  -- b joins with nothing before it, whatever that is, and a with nothing behind it
+  -- b joins with nothing before it, whatever that is, and a with nothing after it
   pub pair-before : (roleOf b ≡ Peak → ⊥) → (roleOf b ≡ Final → ⊥) → pair a b ≡ 0
   pair-before m n = pair-other (λ p q. m q) (λ p q. n q)
 
   pub pair-firm : {r : Role} → roleOf b ≡ r → T (firm r) → pair a b ≡ 0
   pair-firm e t = let h = hard-as b e t in pair-before (h .0) (h .1)
 
-  pub pair-behind : (roleOf a ≡ RoleInitial → ⊥) → (roleOf a ≡ RoleLv → ⊥) → pair a b ≡ 0
-  pair-behind m n = pair-other (λ p q. m p) (λ p q. n p)
+  pub pair-after : (roleOf a ≡ RoleInitial → ⊥) → (roleOf a ≡ RoleLv → ⊥) → pair a b ≡ 0
+  pair-after m n = pair-other (λ p q. m p) (λ p q. n p)
 
   pub pair-none : roleOf a ≡ None → pair a b ≡ 0
   pair-none p = pair-as p refl

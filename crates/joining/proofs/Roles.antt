@@ -22,7 +22,7 @@ use Rattle.joining.specs.Roles.{roleIn, roleOf, Hard}
 
 -- ---- forwards: from the range to the role
 
--- THE ROLE BETWEEN TWO BOUNDS that lie before the syllables or behind them: both tests compute
+-- THE ROLE BETWEEN TWO BOUNDS that lie before the syllables or after them: both tests compute
 -- where lo and hi are numerals
 pub role-between : (lo hi c : ℕ) → T ((ltb hi 0xAC00 || ltb 0xD7A3 lo) && uncut lo hi letterRanges) → lo ≤ c → c ≤ hi
     → roleOf c ≡ roleIn (between Other lo hi letterRanges)

@@ -8,7 +8,8 @@ use Rattle.letters.specs.declared.sort.Sort.the-variants.{ModernInitial, OldIni
 use Rattle.joining.specs.declared.role.Role.{Role}
 use Rattle.joining.specs.declared.role.Role.the-variants.{Initial as RoleInitial, Peak, Final, Lv as RoleLv, None}
 
--- ---- what a code point is to the joiner: only modern letters join, and of the syllables only an LV goes on
+-- ---- what a code point is to the joiner: only modern letters join, and of the syllables only an
+-- LV goes on
 
 abbrev pub roleIn : Sort → Role
 roleIn ModernInitial = RoleInitial

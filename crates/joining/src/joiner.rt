@@ -33,7 +33,7 @@ pub struct Outcome {
     pub out: Emitted,
 }
 
-// Writes what a step emits from `at` on, and answers the index after it. Where there is no room for
+// Writes what a step emits from `at` on, and answers the index after it. If there is no room for
 // all of it nothing is written, and the answer is `at`.
 pub fn put(emit: Emitted, out: &mut [u32], at: usize) -> usize
     ensures { λ r. ⌜ Wrote (now (out .entry)) at (fitted (emitted emit) (now (out .entry)) at) r (now (out .exit)) ⌝ }

@@ -61,7 +61,7 @@ fn before_final(first: u32, last: u32) -> u32
     }
 }
 
-// What two neighbours join to, or 0 where they do not join.
+// What two neighbours join to, or 0 if they do not join.
 pub fn joined(first: u32, second: u32) -> u32
     ensures { λ r. ⌜ r ≡ pair first second ⌝ }
 {

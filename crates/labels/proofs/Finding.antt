@@ -1,6 +1,6 @@
 -- Reading one record of an image.
 --
--- In order: the checks 1, 6 and 7 (`one-over`, `one-number`, `one-inside`, `one-record`); what is
+-- It has: the checks 1, 6 and 7 (`one-over`, `one-number`, `one-inside`, `one-record`); what is
 -- known of a record that passes them (`taken-over`, `taken-number`, `taken-inside`, `taken-layout`,
 -- `taken-short`, `taken-size`, `taken-label`); the entry that was read (`size-short`); and the ways
 -- in which the call returns (`finds-refused`, `finds-lacking`, `finds-done`).

@@ -1,6 +1,6 @@
 -- The records of an image, and the checks 1 and 6.
 --
--- In order: a record in an image (`at-length`); an image with another record in it
+-- It has: a record in an image (`at-length`); an image with another record in it
 -- (`replaced-length`, `replaced-here`, `replaced-other`, `replaced-same`); the checks
 -- (`image-over`, `image-within`, `taken-short`, `taken-count`, `number-uneven`, `number-beyond`,
 -- `number-in`, `number-inside`, `image-uneven`, `image-even`); and the part of an image that is
@@ -65,9 +65,9 @@ module _ (image : List ℕ) (k : ℕ) (inside : 96 * k + 96 ≤ length image) wh
         ∙ sym (part-front (96 * j) (take (96 * k) image) (drop (96 * k) image) fits)
         ∙ ap (λ (l : List ℕ). take 96 (drop (96 * j) l)) (take-append-drop (96 * k) image)
 
-    pub replaced-behind : (j : ℕ) → k < j → recordAt (replaced image k bytes) j ≡ recordAt image j
+    pub replaced-after : (j : ℕ) → k < j → recordAt (replaced image k bytes) j ≡ recordAt image j
     unfolding replaced recordAt
-    replaced-behind j h =
+    replaced-after j h =
         let front : length (take (96 * k) image ++ bytes) ≡ 96 * k + 96 = simp (length-append, before-length, size) in
         let far : 96 * j ≡ length (take (96 * k) image ++ bytes) + (96 * j - (96 * k + 96)) = omega (arith, front) in
         let near : 96 * k + 96 + (96 * j - (96 * k + 96)) ≡ 96 * j = omega arith in
@@ -78,7 +78,7 @@ module _ (image : List ℕ) (k : ℕ) (inside : 96 * k + 96 ≤ length image) wh
         ∙ drop-drop (96 * j - (96 * k + 96)) (96 * k + 96) image ∙ ap (λ (n : ℕ). drop n image) near)
 
     pub replaced-other : (j : ℕ) → (j ≡ k → ⊥) → recordAt (replaced image k bytes) j ≡ recordAt image j
-    replaced-other j h = test (ltb j k) (λ e. replaced-before j (ltb-true j k e)) (λ e. replaced-behind j (omega (arith, ltb-false j k e, h)))
+    replaced-other j h = test (ltb j k) (λ e. replaced-before j (ltb-true j k e)) (λ e. replaced-after j (omega (arith, ltb-false j k e, h)))
 
 -- ---- 1 and 6
 

@@ -1,7 +1,7 @@
 -- The layout of a record of 96 bytes: how the code finds the first byte that breaks it, and which
 -- records are good.
 --
--- In order: the lengths of the label and of what comes after it (`label-length`, `behind-length`);
+-- It has: the lengths of the label and of what comes after it (`label-length`, `after-length`);
 -- the returns of the judge of a record (`fault-long`, `fault-spare`, `fault-ill`, `fault-tail`,
 -- `fault-none`); a good record (`Good`, `layout-good`, `good-layout`); a record that was written is
 -- good (`record-good`, `written-passes`), and a good one is what writing makes of what reading
@@ -23,10 +23,10 @@ use Rattle.answers.proofs.Orders.{order-first, order-rest, passes-true, passes-
 use Rattle.encodings.proofs.Ills.{first-ill-none, first-ill-end}
 use Rattle.utf8.specs.Utf8.{illText, firstIll}
 use Rattle.utf8.proofs.Round.{encodes8}
-use Rattle.labels.specs.Records.{highFirst, zeros, recordOf, objectOf, berthOf, sizeOf, labelOf, behindLabel, firstSet, tooLong, notSpare, illFormed, tailSet, layout, Written}
+use Rattle.labels.specs.Records.{highFirst, zeros, recordOf, objectOf, berthOf, sizeOf, labelOf, afterLabel, firstSet, tooLong, notSpare, illFormed, tailSet, layout, Written}
 use Rattle.labels.specs.Inner.{faulty}
 use Rattle.labels.proofs.Numbers.{high-number, number-below}
-use Rattle.labels.proofs.Records.{record-size, record-label, record-spare, record-behind}
+use Rattle.labels.proofs.Records.{record-size, record-label, record-spare, record-after}
 use Rattle.labels.proofs.Places.{set-zeros, zeros-set}
 
 -- ---- the judge of a record: r and s are the indices that it found
@@ -48,8 +48,8 @@ module _ (bytes : List ℕ) (size : length bytes ≡ 96) (short : sizeOf bytes �
   unfolding labelOf
   label-length = length-take-le (sizeOf bytes) (drop 8 bytes) (omega (arith, length-drop 8 bytes))
 
-  pub behind-length : length (behindLabel bytes) ≡ 88 - sizeOf bytes
-  behind-length = omega (arith, length-drop (8 + sizeOf bytes) bytes)
+  pub after-length : length (afterLabel bytes) ≡ 88 - sizeOf bytes
+  after-length = omega (arith, length-drop (8 + sizeOf bytes) bytes)
 
   module _ (spare : getD bytes 7 0 ≡ 0) {r : ℕ} (ill : r ≡ firstIll (take (8 + sizeOf bytes - 8) (drop 8 bytes))) where
     -- the part of the record that is judged is the label
@@ -72,7 +72,7 @@ module _ (bytes : List ℕ) (size : length bytes ≡ 96) (short : sizeOf bytes �
           ne-eqb (8 + firstIll (labelOf bytes)) 0 (λ e. omega arith),
         ))
 
-    module _ (formed : sizeOf bytes ≤ r) {s : ℕ} (last : s ≡ 8 + sizeOf bytes + firstSet (behindLabel bytes)) where
+    module _ (formed : sizeOf bytes ≤ r) {s : ℕ} (last : s ≡ 8 + sizeOf bytes + firstSet (afterLabel bytes)) where
       well : length (labelOf bytes) ≤ firstIll (labelOf bytes)
       well = omega (arith, found, label-length)
 
@@ -80,26 +80,26 @@ module _ (bytes : List ℕ) (size : length bytes ≡ 96) (short : sizeOf bytes �
       pub fault-tail : s < 96 → layout bytes ≡ faulty s
       unfolding layout faulty
       fault-tail h =
-          let k : firstSet (behindLabel bytes) < length (behindLabel bytes) = omega (arith, behind-length) in
+          let k : firstSet (afterLabel bytes) < length (afterLabel bytes) = omega (arith, after-length) in
           rw last
           (simp (
             le-ltb 88 (sizeOf bytes) short,
             eq-eqb (getD bytes 7 0) 0 spare,
             le-ltb (firstIll (labelOf bytes)) (length (labelOf bytes)) well,
-            lt-ltb (firstSet (behindLabel bytes)) (length (behindLabel bytes)) k,
-            ne-eqb (8 + sizeOf bytes + firstSet (behindLabel bytes)) 0 (λ e. omega arith),
+            lt-ltb (firstSet (afterLabel bytes)) (length (afterLabel bytes)) k,
+            ne-eqb (8 + sizeOf bytes + firstSet (afterLabel bytes)) 0 (λ e. omega arith),
           ))
 
       -- nothing breaks the layout
       pub fault-none : 96 ≤ s → layout bytes ≡ faulty 0
       unfolding layout faulty
       fault-none h =
-          let k : length (behindLabel bytes) ≤ firstSet (behindLabel bytes) = omega (arith, behind-length) in
+          let k : length (afterLabel bytes) ≤ firstSet (afterLabel bytes) = omega (arith, after-length) in
           simp (
             le-ltb 88 (sizeOf bytes) short,
             eq-eqb (getD bytes 7 0) 0 spare,
             le-ltb (firstIll (labelOf bytes)) (length (labelOf bytes)) well,
-            le-ltb (firstSet (behindLabel bytes)) (length (behindLabel bytes)) k,
+            le-ltb (firstSet (afterLabel bytes)) (length (afterLabel bytes)) k,
           )
 
 -- ---- a good record
@@ -110,7 +110,7 @@ pub record Good (bytes : List ℕ) : Type 0 where
   pub short : sizeOf bytes ≤ 88
   pub spare : getD bytes 7 0 ≡ 0
   pub formed : illText (labelOf bytes) ≡ 0
-  pub tail : behindLabel bytes ≡ zeros (88 - sizeOf bytes)
+  pub tail : afterLabel bytes ≡ zeros (88 - sizeOf bytes)
 
 -- the four checks by themselves
 module _ (bytes : List ℕ) (e : layout bytes ≡ passes) where
@@ -139,11 +139,11 @@ module _ (bytes : List ℕ) (e : layout bytes ≡ passes) where
       (passes-false (ltb (firstIll (labelOf bytes)) (length (labelOf bytes))) 7 (8 + firstIll (labelOf bytes))
       (order-first (illFormed bytes) (tailSet bytes ∷ []) after-second)))
 
-  good-tail : behindLabel bytes ≡ zeros (length (behindLabel bytes))
+  good-tail : afterLabel bytes ≡ zeros (length (afterLabel bytes))
   good-tail =
-      zeros-set (behindLabel bytes)
-      (ltb-false (firstSet (behindLabel bytes)) (length (behindLabel bytes))
-      (passes-false (ltb (firstSet (behindLabel bytes)) (length (behindLabel bytes))) 7 (8 + sizeOf bytes + firstSet (behindLabel bytes))
+      zeros-set (afterLabel bytes)
+      (ltb-false (firstSet (afterLabel bytes)) (length (afterLabel bytes))
+      (passes-false (ltb (firstSet (afterLabel bytes)) (length (afterLabel bytes))) 7 (8 + sizeOf bytes + firstSet (afterLabel bytes))
       (order-first (tailSet bytes) [] (order-rest (illFormed bytes) (tailSet bytes ∷ []) after-second))))
 
 -- 96 bytes keep the layout if and only if they are a good record
@@ -152,20 +152,20 @@ layout-good bytes size e = record {
   short = good-short bytes e;
   spare = good-spare bytes e;
   formed = good-formed bytes e;
-  tail = good-tail bytes e ∙ ap zeros (behind-length bytes size (good-short bytes e));
+  tail = good-tail bytes e ∙ ap zeros (after-length bytes size (good-short bytes e));
 }
 
 pub good-layout : (bytes : List ℕ) → Good bytes → layout bytes ≡ passes
 unfolding layout
 good-layout bytes g =
     let well : length (labelOf bytes) ≤ firstIll (labelOf bytes) = omega (arith, first-ill-none encodes8 (labelOf bytes) (g .formed)) in
-    let unset : length (behindLabel bytes) ≤ firstSet (behindLabel bytes) =
+    let unset : length (afterLabel bytes) ≤ firstSet (afterLabel bytes) =
     rw (g .tail) (omega (arith, length-replicate {A = ℕ} (88 - sizeOf bytes) 0, set-zeros (88 - sizeOf bytes))) in
     simp (
       le-ltb 88 (sizeOf bytes) (g .short),
       eq-eqb (getD bytes 7 0) 0 (g .spare),
       le-ltb (firstIll (labelOf bytes)) (length (labelOf bytes)) well,
-      le-ltb (firstSet (behindLabel bytes)) (length (behindLabel bytes)) unset,
+      le-ltb (firstSet (afterLabel bytes)) (length (afterLabel bytes)) unset,
     )
 
 -- a record that was written is good
@@ -174,7 +174,7 @@ record-good object berth label h e = record {
   short = rw (record-size object berth label) h;
   spare = record-spare object berth label;
   formed = rw (record-label object berth label) e;
-  tail = record-behind object berth label ∙ ap (λ (n : ℕ). zeros (88 - n)) (sym (record-size object berth label));
+  tail = record-after object berth label ∙ ap (λ (n : ℕ). zeros (88 - n)) (sym (record-size object berth label));
 }
 
 pub written-passes : (object berth : ℕ) (label : List ℕ) → length label ≤ 88 → illText label ≡ 0 → layout (recordOf object berth label) ≡ passes
@@ -219,13 +219,13 @@ module _ (bytes : List ℕ) (size : length bytes ≡ 96) where
   from-six : drop 6 bytes ≡ getD bytes 6 0 ∷ getD bytes 7 0 ∷ drop 8 bytes
   from-six = drop-cons bytes 6 0 (omega arith) ∙ ap (λ (l : List ℕ). getD bytes 6 0 ∷ l) (drop-cons bytes 7 0 (omega arith))
 
-  from-eight : drop 8 bytes ≡ labelOf bytes ++ behindLabel bytes
+  from-eight : drop 8 bytes ≡ labelOf bytes ++ afterLabel bytes
   unfolding labelOf
   from-eight =
       sym (take-append-drop (sizeOf bytes) (drop 8 bytes))
       ∙ ap (λ (l : List ℕ). take (sizeOf bytes) (drop 8 bytes) ++ l) (drop-drop (sizeOf bytes) 8 bytes)
 
-  by-parts : bytes ≡ take 4 bytes ++ (take 2 (drop 4 bytes) ++ (getD bytes 6 0 ∷ getD bytes 7 0 ∷ (labelOf bytes ++ behindLabel bytes)))
+  by-parts : bytes ≡ take 4 bytes ++ (take 2 (drop 4 bytes) ++ (getD bytes 6 0 ∷ getD bytes 7 0 ∷ (labelOf bytes ++ afterLabel bytes)))
   by-parts =
       sym (take-append-drop 4 bytes)
       ∙ ap (λ (l : List ℕ). take 4 bytes ++ l)

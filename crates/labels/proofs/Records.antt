@@ -2,14 +2,14 @@
 --
 -- In order: its length (`record-length`); its object, berth, size and label (`record-object`,
 -- `record-berth`, `record-size`, `record-label`); its spare byte and what comes after the label
--- (`record-spare`, `record-behind`).
+-- (`record-spare`, `record-after`).
 use mathlib.Core.Path.{_≡_, refl, sym, _∙_}
 use mathlib.Core.List.{List}
 use Prim.Native.Nat.{ℕ, _-_, _^_, _≤_, _<_}
 use native.Mathlib.Omega.{arith}
 use lib.ListN.{length, getD, length-append, length-replicate}
 use lib.Seq.{take-append-seam, drop-append-seam, drop-drop}
-use Rattle.labels.specs.Records.{highFirst, zeros, recordOf, objectOf, berthOf, sizeOf, labelOf, behindLabel}
+use Rattle.labels.specs.Records.{highFirst, zeros, recordOf, objectOf, berthOf, sizeOf, labelOf, afterLabel}
 use Rattle.labels.proofs.Numbers.{number-high}
 
 module _ (object berth : ℕ) (label : List ℕ) where
@@ -42,6 +42,6 @@ module _ (object berth : ℕ) (label : List ℕ) where
   unfolding recordOf highFirst
   record-spare = refl
 
-  pub record-behind : behindLabel (recordOf object berth label) ≡ zeros (88 - length label)
+  pub record-after : afterLabel (recordOf object berth label) ≡ zeros (88 - length label)
   unfolding recordOf highFirst
-  record-behind = sym (drop-drop (length label) 8 (recordOf object berth label)) ∙ drop-append-seam label (zeros (88 - length label))
+  record-after = sym (drop-drop (length label) 8 (recordOf object berth label)) ∙ drop-append-seam label (zeros (88 - length label))

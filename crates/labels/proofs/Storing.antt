@@ -1,6 +1,6 @@
 -- Writing a record into its place in an image.
 --
--- In order: a fresh record filled (`started`, `label-fits`, `record-made`), copied over its place
+-- It has: a fresh record filled (`started`, `label-fits`, `record-made`), copied over its place
 -- (`put-whole`) in the image (`put-placed`); bytes that are stored or too many (`stores-refused`,
 -- `stores-done`), and those that a label joins to (`joined-refused`, `joined-count`, `joined-fits`,
 -- `joined-most`, `joined-done`); the checks 1, 1 and 6 (`places-over`, `places-label`,

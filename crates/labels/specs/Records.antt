@@ -3,11 +3,12 @@
 -- bytes of well-formed UTF-8, then zeros. This file says what writing makes (`recordOf`), what
 -- reading finds, and which byte is the first that breaks the layout (`layout`).
 use mathlib.Core.Path.{_≡_}
-use mathlib.Core.Bool.{cond}
+use mathlib.Core.Bool.{Bool, cond, not}
 use mathlib.Core.List.{List, [], _∷_, _++_}
 use Prim.Native.Nat.{ℕ, zero, suc, _+_, _-_, _*_, _/_, _%_, _^_, _≤_, _<_}
 use lib.Dec.{ltb, eqb}
 use lib.ListN.{length, getD, take, drop, replicate}
+use Rattle.laws.specs.Lists.{firstWhere}
 use Rattle.answers.specs.Checks.{Check, passes, refuses, inOrder}
 use Rattle.utf8.specs.Utf8.{illText, firstIll}
 use Rattle.labels.specs.declared.record.Entry.{Entry}
@@ -57,10 +58,12 @@ entryOf bytes = record { object = objectOf bytes; berth = berthOf bytes; length 
 
 -- ---- THE LAYOUT
 
+abbrev pub isSet : ℕ → Bool
+isSet byte = not (eqb byte 0)
+
 -- the index of the first byte that is not zero, or the length if there is none
-unfoldable pub firstSet : List ℕ → ℕ
-firstSet [] = 0
-firstSet (b ∷ x) = cond (eqb b 0) (suc (firstSet x)) 0
+abbrev pub firstSet : List ℕ → ℕ
+firstSet = firstWhere isSet
 
 -- 7, in document 01's order: the length, then byte 7, then the label, then the bytes after it
 abbrev pub tooLong : List ℕ → Check
@@ -72,12 +75,12 @@ notSpare bytes = cond (eqb (getD bytes 7 0) 0) passes (refuses 7 7)
 abbrev pub illFormed : List ℕ → Check
 illFormed bytes = cond (ltb (firstIll (labelOf bytes)) (length (labelOf bytes))) (refuses 7 (8 + firstIll (labelOf bytes))) passes
 
-abbrev pub behindLabel : List ℕ → List ℕ
-behindLabel bytes = drop (8 + sizeOf bytes) bytes
+abbrev pub afterLabel : List ℕ → List ℕ
+afterLabel bytes = drop (8 + sizeOf bytes) bytes
 
 abbrev pub tailSet : List ℕ → Check
 tailSet bytes =
-    cond (ltb (firstSet (behindLabel bytes)) (length (behindLabel bytes))) (refuses 7 (8 + sizeOf bytes + firstSet (behindLabel bytes))) passes
+    cond (ltb (firstSet (afterLabel bytes)) (length (afterLabel bytes))) (refuses 7 (8 + sizeOf bytes + firstSet (afterLabel bytes))) passes
 
 unfoldable pub layout : List ℕ → Check
 layout bytes = inOrder (tooLong bytes ∷ notSpare bytes ∷ illFormed bytes ∷ tailSet bytes ∷ [])

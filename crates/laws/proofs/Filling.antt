@@ -17,7 +17,7 @@ use borrow.Author.Tests.{le-leb, lt-leb}
 use Rattle.laws.specs.Writing.{front, Room, fitted, Wrote, Fronts}
 use Rattle.laws.specs.Lists.{each}
 use Rattle.laws.specs.Machines.{Machine, from}
-use Rattle.laws.proofs.Lists.{each-next, each-end}
+use Rattle.laws.proofs.Lists.{at-index, each-next, each-end}
 
 -- ---- a piece
 
@@ -35,7 +35,7 @@ each-piece f d l i h = record { eq = each-next f d l i h }
 module _ {S A B : Type 0} (m : Machine S A B) where
   pub machine-piece : {s t : S} {xs : List B} (d : A) (l : List A) (i : ℕ) → i < length l → t ≡ m .step s (getD l i d) → xs ≡ m .emit s (getD l i d)
       → Piece (from m s (drop i l)) xs (from m t (drop (i + 1) l))
-  machine-piece d l i h e q = record { eq = rw (add-one, drop-cons l i d h, e, q) }
+  machine-piece d l i h e q = record { eq = rw (at-index d l i h, e, q) }
 
   pub machine-last : {s : S} {xs : List B} (l : List A) (i : ℕ) → length l ≤ i → xs ≡ m .flush s → Piece (from m s (drop i l)) xs []
   machine-last l i h q = record { eq = rw (drop-of-length-le l h, append-nil, q) }
@@ -48,32 +48,32 @@ module _ {A : Type 0} where
   sets-append l at (x ∷ xs) ys = sets-append (set l at x) (suc at) xs ys ∙ simp (suc-add, add-suc)
 
   pub wrote-one : {all out : List A} {at : ℕ} {x : A} → all ≡ x ∷ [] → Wrote out at all (at + 1) (set out at x)
-  wrote-one e = rw e (record { behind = refl; holds = refl })
+  wrote-one e = rw e (record { after = refl; holds = refl })
 
   pub wrote-none : {all out : List A} {at : ℕ} → all ≡ [] → Wrote out at all at out
-  wrote-none e = rw e (record { behind = omega arith; holds = refl })
+  wrote-none e = rw e (record { after = omega arith; holds = refl })
 
   pub wrote-pair : {all out : List A} {at : ℕ} {x y : A} → all ≡ x ∷ y ∷ [] → Wrote out at all (at + 2) (set (set out at x) (at + 1) y)
-  wrote-pair e = rw e (record { behind = refl; holds = rw add-one })
+  wrote-pair e = rw e (record { after = refl; holds = rw add-one })
 
   pub wrote-three : {all out : List A} {at : ℕ} {x y z : A} → all ≡ x ∷ y ∷ z ∷ []
       → Wrote out at all (at + 3) (set (set (set out at x) (at + 1) y) (at + 2) z)
   wrote-three {at = at} e =
       let two : at + 2 ≡ suc (suc at) = omega arith in
-      rw e (record { behind = refl; holds = rw (add-one, two) })
+      rw e (record { after = refl; holds = rw (add-one, two) })
 
   pub wrote-four : {all out : List A} {at : ℕ} {x y z w : A} → all ≡ x ∷ y ∷ z ∷ w ∷ []
       → Wrote out at all (at + 4) (set (set (set (set out at x) (at + 1) y) (at + 2) z) (at + 3) w)
   wrote-four {at = at} e =
       let two : at + 2 ≡ suc (suc at) = omega arith in
       let three : at + 3 ≡ suc (suc (suc at)) = omega arith in
-      rw e (record { behind = refl; holds = rw (add-one, two, three) })
+      rw e (record { after = refl; holds = rw (add-one, two, three) })
 
   pub wrote-two : {all xs ys out out′ out″ : List A} {at k r : ℕ} → Piece all xs ys → Wrote out at xs k out′ → Wrote out′ k ys r out″
       → Wrote out at all r out″
   wrote-two {xs = xs} {ys = ys} p v w = rw (p .eq) (record {
-    behind = simp length-append (omega (arith, v .behind, w .behind));
-    holds = w .holds ∙ simp (v .behind, v .holds) (sym (sets-append _ _ xs ys));
+    after = simp length-append (omega (arith, v .after, w .after));
+    holds = w .holds ∙ simp (v .after, v .holds) (sym (sets-append _ _ xs ys));
   })
 
   pub wrote-length : {out xs out′ : List A} {at r : ℕ} → Wrote out at xs r out′ → length out′ ≡ length out
@@ -94,7 +94,7 @@ module _ {A : Type 0} where
 
   pub room-second : {all xs ys out out′ : List A} {at k : ℕ} → Room out at all → Piece all xs ys → Wrote out at xs k out′ → Room out′ k ys
   room-second h p w =
-      record { fits = omega (arith, h .fits, simp length-append at (ap length (p .eq)), w .behind, simp length-sets at (ap length (w .holds))) }
+      record { fits = omega (arith, h .fits, simp length-append at (ap length (p .eq)), w .after, simp length-sets at (ap length (w .holds))) }
 
 -- ---- fitted: all of a list, or nothing
 
@@ -185,7 +185,7 @@ module _ {A : Type 0} where
   -- and is written
   pub filling-more : {whole left xs rest out₀ out out′ : List A} {k k′ : ℕ} → length whole ≤ length out₀ → Filling whole left out₀ out k
       → Piece left xs rest → Wrote out k xs k′ out′ → Filling whole rest out₀ out′ k′
-  filling-more {xs = xs} h f p w = simp (w .behind, w .holds) (filling-sets xs h (rw (p .eq) at f))
+  filling-more {xs = xs} h f p w = simp (w .after, w .holds) (filling-sets xs h (rw (p .eq) at f))
 
   -- nothing is left: the front is the whole
   pub filling-all : {whole rest out₀ out : List A} {k : ℕ} → Filling whole rest out₀ out k → rest ≡ [] → Fronts whole out₀ k out

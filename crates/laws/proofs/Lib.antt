@@ -1,5 +1,4 @@
--- The laws of crate laws. What a caller may cite is `pub mod`; functions' proofs have folders of
--- their own.
+-- The laws of crate laws. What a caller may cite is `pub mod`.
 pub mod Bools
 pub mod Lists
 pub mod Ranges

@@ -1,7 +1,8 @@
 -- Laws of lists that the libraries lack. In order: two lists that make nothing (`nil-left`,
 -- `nil-right`), one and two (`one-not-two`); one list cut in two ways, with fronts as long
--- (`cut-front`, `cut-back`) or with any (`Cuts`, `cuts`); then `All`, `each` (at a loop's index at
--- the end) and `count`, a section each.
+-- (`cut-front`, `cut-back`) or with any (`Cuts`, `cuts`); what stands at an index (`at-index`,
+-- `at-index-to`, `three-at`, `four-at`); then `All`, `each` (at a loop's index at the end),
+-- `firstWhere` and `count`, a section each.
 use mathlib.Core.Path.{_≡_, refl, sym, _∙_, ap}
 use mathlib.Core.Bool.{Bool, true, false, cond}
 use mathlib.Core.List.{List, [], _∷_, _++_, append-assoc, append-nil, cons≢nil}
@@ -11,7 +12,7 @@ use native.Mathlib.Numerals.{add-one}
 use native.Mathlib.Omega.{arith}
 use lib.ListN.{length, getD, drop, length-append, drop-of-length-le}
 use lib.Seq.{drop-cons, drop-at, drop-append-seam}
-use Rattle.laws.specs.Lists.{each, All, none, also, count}
+use Rattle.laws.specs.Lists.{each, All, none, also, firstWhere, count}
 
 -- ---- two lists put together
 
@@ -54,6 +55,30 @@ module _ {A : Type 0} where
       more : Cuts u t x y → Cuts (b ∷ u) t (c ∷ x) y
       more (short z p) = short z (cc)
       more (long a z p q) = long a z (cc) q
+
+-- ---- what stands at an index, and the rest: one element, three, four
+
+module _ {A : Type 0} (d : A) (l : List A) (i : ℕ) where
+  pub at-index : i < length l → drop i l ≡ getD l i d ∷ drop (i + 1) l
+  at-index h = rw add-one (drop-cons l i d h)
+
+  -- j is the index after it
+  pub at-index-to : (j : ℕ) → j ≡ suc i → i < length l → drop i l ≡ getD l i d ∷ drop j l
+  at-index-to j e h = rw e (drop-cons l i d h)
+
+module _ {A : Type 0} (d : A) (l : List A) (i : ℕ) where
+  pub three-at : i + 3 ≤ length l → drop i l ≡ getD l i d ∷ getD l (i + 1) d ∷ getD l (i + 2) d ∷ drop (i + 3) l
+  three-at h =
+      let one = at-index d l i (omega arith) in
+      let two = at-index-to d l (i + 1) (i + 2) (omega arith) (omega arith) in
+      let three = at-index-to d l (i + 2) (i + 3) (omega arith) (omega arith) in
+      rw (one, two, three)
+
+  pub four-at : i + 4 ≤ length l → drop i l ≡ getD l i d ∷ getD l (i + 1) d ∷ getD l (i + 2) d ∷ getD l (i + 3) d ∷ drop (i + 4) l
+  four-at h =
+      let three = three-at (omega arith) in
+      let four = at-index-to d l (i + 3) (i + 4) (omega arith) (omega arith) in
+      rw (three, four)
 
 -- ---- All
 
@@ -130,7 +155,7 @@ module _ {A B : Type 0} (f : A → List B) where
   -- at a loop's index: what is left is what stands at i, and then what is left after it
   pub each-next : (d : A) (l : List A) (i : ℕ) → i < length l → each f (drop i l) ≡ f (getD l i d) ++ each f (drop (i + 1) l)
   unfolding each
-  each-next d l i h = rw (add-one, drop-cons l i d h)
+  each-next d l i h = rw (at-index d l i h)
 
   pub each-end : (l : List A) (i : ℕ) → length l ≤ i → each f (drop i l) ≡ []
   unfolding each
@@ -152,6 +177,40 @@ pub each-same : {A B : Type 0} (f g : A → List B) → ((a : A) → f a ≡ g a
 unfolding each
 each-same f g h [] = refl
 each-same f g h (a ∷ x) = rw (h a, each-same f g h x)
+
+-- ---- firstWhere
+
+module _ {A : Type 0} (test : A → Bool) where
+  -- none passes
+  pub first-none : {x : List A} → All (λ a. test a ≡ false) x → firstWhere test x ≡ length x
+  unfolding firstWhere
+  first-none none = refl
+  first-none (also h p) = rw (h, first-none p)
+
+  pub none-first : (x : List A) → length x ≤ firstWhere test x → All (λ a. test a ≡ false) x
+  unfolding firstWhere
+  none-first [] h = none
+  none-first (a ∷ x) h = by (test a) refl h (none-first x)
+    where
+      by : (b : Bool) → test a ≡ b → length (a ∷ x) ≤ cond b 0 (suc (firstWhere test x))
+          → (length x ≤ firstWhere test x → All (λ a. test a ≡ false) x) → All (λ a. test a ≡ false) (a ∷ x)
+      by true e h rest = absurd (omega arith)
+      by false e h rest = also e (rest (omega arith))
+
+-- at a loop's index: n is the index wanted
+
+module _ {A : Type 0} (test : A → Bool) (d : A) (l : List A) (i n : ℕ) where
+  pub first-next : i < length l → test (getD l i d) ≡ false → i + firstWhere test (drop i l) ≡ n → i + 1 + firstWhere test (drop (i + 1) l) ≡ n
+  unfolding firstWhere
+  first-next h e q = omega (arith, simp e at (rw (at-index d l i h) at q))
+
+  pub first-here : i < length l → test (getD l i d) ≡ true → i + firstWhere test (drop i l) ≡ n → i ≡ n
+  unfolding firstWhere
+  first-here h e q = omega (arith, simp e at (rw (at-index d l i h) at q))
+
+  pub first-end : length l ≤ i → i + firstWhere test (drop i l) ≡ n → i ≡ n
+  unfolding firstWhere
+  first-end h q = omega (arith, simp (drop-of-length-le l h) at q)
 
 -- ---- count
 

@@ -4,7 +4,7 @@
 -- In order: two parts of a text (`outs-append`, `ends-append`, `from-append`, `from-outs`); one
 -- letter more at the end (`outs-snoc`, `ends-snoc`); the cut law (`cut`); walls (`wall-fence`,
 -- `around`); cuts compose (`splits-after`); a machine that sees no difference between a letter and
--- its parts (`same-whole`); one machine behind another, and one that is fed parts (`from-behind`,
+-- its parts (`same-whole`); two machines chained, and one that is fed parts (`from-chained`,
 -- `from-fed`); how much is written (`outs-most`).
 use mathlib.Core.Path.{_≡_, refl, sym, _∙_}
 use mathlib.Core.List.{List, [], _∷_, _++_, append-assoc, append-nil}
@@ -13,7 +13,7 @@ use native.Mathlib.Nat.{mul-suc}
 use native.Mathlib.Omega.{arith}
 use lib.ListN.{length, length-append}
 use Rattle.laws.specs.Lists.{each}
-use Rattle.laws.specs.Machines.{Machine, outs, ends, from, whole, Splits, Fence, Wall, behind, fed}
+use Rattle.laws.specs.Machines.{Machine, outs, ends, from, whole, Splits, Fence, Wall, chained, fed}
 
 module _ {S A B : Type 0} (m : Machine S A B) where
   -- ---- two parts of a text
@@ -77,14 +77,14 @@ unfolding each
 same-whole m f o e [] s = refl
 same-whole m f o e (a ∷ x) s = rw (from-append m (f a) (each f x) s, o s a, e s a, same-whole m f o e x (m .step s a))
 
--- ---- one machine behind another:
+-- ---- two machines chained:
 -- what is written is what the second writes of what the first writes
 
 module _ {S T A B C : Type 0} (m : Machine S A B) (n : Machine T B C) where
-  pub from-behind : (x : List A) (s : S) (t : T) → from (behind m n) (s, t) x ≡ from n t (from m s x)
-  from-behind [] s t = refl
-  from-behind (a ∷ x) s t =
-      rw (from-append n (m .emit s a) (from m (m .step s a) x) t, from-behind x (m .step s a) (ends n t (m .emit s a)))
+  pub from-chained : (x : List A) (s : S) (t : T) → from (chained m n) (s, t) x ≡ from n t (from m s x)
+  from-chained [] s t = refl
+  from-chained (a ∷ x) s t =
+      rw (from-append n (m .emit s a) (from m (m .step s a) x) t, from-chained x (m .step s a) (ends n t (m .emit s a)))
 
 -- ---- a machine that is fed the parts of each letter
 

@@ -55,9 +55,9 @@ uncut lo hi (range a b v ∷ rs) = (leb a lo && leb hi b) || ((leb (suc hi) a ||
 
 module _ {V′ : Type 0} (none : V′) (lo hi c : ℕ) (least : lo ≤ c) (most : c ≤ hi) where
   -- one range in front of the list rs, by the three tests that `uncut` makes
-  one-more : (a b : ℕ) (v : V′) (rs : List (Range V′)) (covers behind before : Bool)
-      → (leb a lo && leb hi b) ≡ covers → leb (suc hi) a ≡ behind → leb (suc b) lo ≡ before
-      → T (covers || ((behind || before) && uncut lo hi rs))
+  one-more : (a b : ℕ) (v : V′) (rs : List (Range V′)) (covers after before : Bool)
+      → (leb a lo && leb hi b) ≡ covers → leb (suc hi) a ≡ after → leb (suc b) lo ≡ before
+      → T (covers || ((after || before) && uncut lo hi rs))
       → (T (uncut lo hi rs) → look none c rs ≡ between none lo hi rs)
       → look none c (range a b v ∷ rs) ≡ cond covers v (between none lo hi rs)
   one-more a b v rs true q r e f g t rest =

@@ -7,16 +7,14 @@ use mathlib.Core.Path.{_≡_, refl, sym, _∙_, ap}
 use mathlib.Core.Bool.{Bool, true, false, _&&_, true≢false, false≢true}
 use mathlib.Core.List.{List, [], _∷_, _++_, map}
 use Prim.Native.Nat.{ℕ, suc, _+_, _*_, _≤_, _<_}
-use native.Mathlib.Numerals.{add-one}
 use native.Mathlib.Omega.{arith}
 use lib.Dec.{T, eqb}
 use lib.ListN.{length, getD, drop, length-append, length-map, List·getD-map}
-use lib.Seq.{drop-cons}
 use borrow.Author.Tests.{eqb-true, eq-eqb, ne-eqb}
 use Rattle.laws.specs.Lists.{All, none, also}
 use Rattle.laws.specs.Strings.{same, begins, picked, Distinct, Separable}
 use Rattle.laws.proofs.Bools.{test, and-left, and-right, and-T-left, and-T-right}
-use Rattle.laws.proofs.Lists.{cut-back, all-at}
+use Rattle.laws.proofs.Lists.{cut-back, at-index, all-at}
 use Rattle.laws.proofs.Tables.{every, distinct, distinct-at}
 
 -- ---- same
@@ -43,16 +41,16 @@ not-same x y h = test (same x y) (λ e. absurd (h (same-true x y e))) (λ e. e)
 -- ---- begins
 
 -- what stands after x
-pub begins-behind : (x y : List ℕ) → begins x y ≡ true → y ≡ x ++ drop (length x) y
-begins-behind [] y e = refl
-begins-behind (a ∷ x) [] e = absurd (false≢true e)
-begins-behind (a ∷ x) (b ∷ y) e =
+pub begins-after : (x y : List ℕ) → begins x y ≡ true → y ≡ x ++ drop (length x) y
+begins-after [] y e = refl
+begins-after (a ∷ x) [] e = absurd (false≢true e)
+begins-after (a ∷ x) (b ∷ y) e =
     let head = eqb-true a b (and-left (eqb a b) (begins x y) e) in
-    let tail = begins-behind x y (and-right (eqb a b) (begins x y) e) in
+    let tail = begins-after x y (and-right (eqb a b) (begins x y) e) in
     cc
 
 pub begins-true : (x y : List ℕ) → begins x y ≡ true → (z : List ℕ) × (y ≡ x ++ z)
-begins-true x y e = (drop (length x) y, begins-behind x y e)
+begins-true x y e = (drop (length x) y, begins-after x y e)
 
 pub begins-append : (x z : List ℕ) → begins x (x ++ z) ≡ true
 begins-append [] z = refl
@@ -62,12 +60,12 @@ pub begins-false : (x y : List ℕ) → begins x y ≡ false → (z : List ℕ) 
 begins-false x y e z q = true≢false (sym (begins-append x z) ∙ ap (begins x) (sym q) ∙ e)
 
 pub not-begins : (x y : List ℕ) → ((z : List ℕ) → y ≡ x ++ z → ⊥) → begins x y ≡ false
-not-begins x y h = test (begins x y) (λ e. absurd (h (drop (length x) y) (begins-behind x y e))) (λ e. e)
+not-begins x y h = test (begins x y) (λ e. absurd (h (drop (length x) y) (begins-after x y e))) (λ e. e)
 
 -- ---- by the lengths
 
 pub begins-least : (x y : List ℕ) → begins x y ≡ true → length x ≤ length y
-begins-least x y e = omega (arith, simp length-append at (ap length (begins-behind x y e)))
+begins-least x y e = omega (arith, simp length-append at (ap length (begins-after x y e)))
 
 pub begins-short : (x y : List ℕ) → length y < length x → begins x y ≡ false
 begins-short x y h = not-begins x y (λ z e. omega (arith, simp length-append at (ap length e)))
@@ -85,24 +83,21 @@ same-begins (a ∷ x) (b ∷ y) h = ap (λ (t : Bool). eqb a b && t) (same-begin
 -- ---- begins, at an index of the text l:
 -- of a string whose first letter is a, and at the same index of a string
 
-at-index : (l : List ℕ) (at : ℕ) → at < length l → drop at l ≡ getD l at 0 ∷ drop (at + 1) l
-at-index l at h = rw add-one (drop-cons l at 0 h)
-
 module _ (a : ℕ) (x l : List ℕ) (at : ℕ) (inside : at < length l) where
   pub begins-here : getD l at 0 ≡ a → begins (a ∷ x) (drop at l) ≡ begins x (drop (at + 1) l)
-  begins-here e = simp (at-index l at inside, eq-eqb a (getD l at 0) (sym e))
+  begins-here e = simp (at-index 0 l at inside, eq-eqb a (getD l at 0) (sym e))
 
   pub begins-not-here : (getD l at 0 ≡ a → ⊥) → begins (a ∷ x) (drop at l) ≡ false
-  begins-not-here h = simp (at-index l at inside, ne-eqb a (getD l at 0) (λ e. h (sym e)))
+  begins-not-here h = simp (at-index 0 l at inside, ne-eqb a (getD l at 0) (λ e. h (sym e)))
 
 module _ (x l : List ℕ) (at : ℕ) (inside-x : at < length x) (inside : at < length l) where
   pub begins-on : getD l at 0 ≡ getD x at 0 → begins (drop at x) (drop at l) ≡ begins (drop (at + 1) x) (drop (at + 1) l)
   begins-on e =
-      ap (λ (y : List ℕ). begins y (drop at l)) (at-index x at inside-x) ∙ begins-here (getD x at 0) (drop (at + 1) x) l at inside e
+      ap (λ (y : List ℕ). begins y (drop at l)) (at-index 0 x at inside-x) ∙ begins-here (getD x at 0) (drop (at + 1) x) l at inside e
 
   pub begins-not-on : (getD l at 0 ≡ getD x at 0 → ⊥) → begins (drop at x) (drop at l) ≡ false
   begins-not-on h =
-      ap (λ (y : List ℕ). begins y (drop at l)) (at-index x at inside-x) ∙ begins-not-here (getD x at 0) (drop (at + 1) x) l at inside h
+      ap (λ (y : List ℕ). begins y (drop at l)) (at-index 0 x at inside-x) ∙ begins-not-here (getD x at 0) (drop (at + 1) x) l at inside h
 
 -- ---- a table's rule by a computed test
 
@@ -160,16 +155,16 @@ module _ {inSet : ℕ → Bool} {A B C : List (List ℕ)} (s : Separable inSet A
       run-front inSet false (getD A i []) (getD A j []) (getD B p [] ++ getD C f []) (getD B q [] ++ getD C g []) (all-at [] (s .first-free) i hi)
       (all-at [] (s .first-free) j hj) (second-ends p hp (getD C f [])) (second-ends q hq (getD C g [])) e
 
-  behind : getD B p [] ++ getD C f [] ≡ getD B q [] ++ getD C g []
-  behind = cut-back (getD A i []) (getD B p [] ++ getD C f []) (getD A j []) (getD B q [] ++ getD C g []) e (ap length firsts)
+  after : getD B p [] ++ getD C f [] ≡ getD B q [] ++ getD C g []
+  after = cut-back (getD A i []) (getD B p [] ++ getD C f []) (getD A j []) (getD B q [] ++ getD C g []) e (ap length firsts)
 
   seconds : getD B p [] ≡ getD B q []
   seconds =
       run-front inSet true (getD B p []) (getD B q []) (getD C f []) (getD C g []) (all-at [] (s .second-full) p hp) (all-at [] (s .second-full) q hq)
-      (third-ends f hf) (third-ends g hg) behind
+      (third-ends f hf) (third-ends g hg) after
 
   thirds : getD C f [] ≡ getD C g []
-  thirds = cut-back (getD B p []) (getD C f []) (getD B q []) (getD C g []) behind (ap length seconds)
+  thirds = cut-back (getD B p []) (getD C f []) (getD B q []) (getD C g []) after (ap length seconds)
 
   pub split-once : (i ≡ j) × (p ≡ q) × (f ≡ g)
   split-once = (s .first-distinct i j hi hj firsts, s .second-distinct p q hp hq seconds, s .third-distinct f g hf hg thirds)

@@ -6,7 +6,7 @@
 -- In order: `Machine`; what it writes and where it ends on the way (`outs`, `ends`); all that it
 -- writes (`from`, `whole`); a place to cut (`Splits`); a letter before which every text may be cut
 -- (`Fence`); a fence that leaves nothing open (`Wall`); one machine that reads what another writes
--- (`behind`), or the parts of each letter (`fed`).
+-- (`chained`), or the parts of each letter (`fed`).
 use mathlib.Core.Path.{_≡_}
 use mathlib.Core.List.{List, [], _∷_, _++_}
 
@@ -51,9 +51,9 @@ pub record Wall {S A B : Type 0} (m : Machine S A B) (a : A) : Type 0 where
   pub resets : (s : S) → m .step s a ≡ m .start
   pub closes : (s : S) → m .emit s a ≡ m .flush s ++ m .emit (m .start) a
 
--- the machine n behind the machine m: it reads what m writes
-abbrev pub behind : {S T A B C : Type 0} → Machine S A B → Machine T B C → Machine (S × T) A C
-behind m n = record {
+-- two machines chained: n reads what m writes
+abbrev pub chained : {S T A B C : Type 0} → Machine S A B → Machine T B C → Machine (S × T) A C
+chained m n = record {
   start = (m .start, n .start);
   step = λ u a. (m .step (u .0) a, ends n (u .1) (m .emit (u .0) a));
   emit = λ u a. outs n (u .1) (m .emit (u .0) a);

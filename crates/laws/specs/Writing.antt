@@ -23,7 +23,7 @@ fitted xs out at = cond (leb (at + length xs) (length out)) xs []
 
 -- xs stands in the buffer from `at` on, the rest is as it was, and r is the index after xs
 pub record Wrote {A : Type 0} (out : List A) (at : ℕ) (xs : List A) (r : ℕ) (out′ : List A) : Type 0 where
-  pub behind : r ≡ at + length xs
+  pub after : r ≡ at + length xs
   pub holds : out′ ≡ sets out at xs
 
 -- `whole` fills the front, the rest is as it was, and r is its length

@@ -1,6 +1,6 @@
 -- How many code points have each sort: the counts of document 01, as statements about the
 -- definition over all of 0 to 10FFFF. Where the sorts change, in 1100–11FF and among the syllables,
--- antt counts; before, between and behind, all are other.
+-- antt counts; before, between and after, all are other.
 use mathlib.Core.Path.{_≡_, refl, sym, _∙_, ap}
 use mathlib.Core.Bool.{Bool, true, false, _&&_}
 use Prim.Native.Nat.{ℕ, _+_, _-_, _%_, _≤_, _<_}
@@ -83,7 +83,8 @@ letters-no-syllable : (letters-of Lv ≡ 0) × (letters-of Lvt ≡ 0)
 unfolding count sortOf within
 letters-no-syllable = (refl, refl)
 
--- ---- THE COUNTS: 19 + 71 initials, 21 + 45 peaks, 27 + 55 finals, a filler of each of two places, 399 LV and 10,773 LVT
+-- ---- THE COUNTS: 19 + 71 initials, 21 + 45 peaks, 27 + 55 finals, a filler of each of two places,
+-- 399 LV and 10,773 LVT
 
 pub modern-initials : howMany ModernInitial ≡ 19
 modern-initials = letters-only ModernInitial refl refl refl (letters-counted .0)

@@ -15,7 +15,7 @@ use Rattle.letters.specs.Sorts.{letterRanges, sortOf, sortNumber, hasSor
 
 -- ---- forwards: from the range to the sort
 
--- lo to hi lies before the syllables, or behind them
+-- lo to hi lies before the syllables, or after them
 abbrev beside : ℕ → ℕ → Bool
 beside lo hi = ltb hi 0xAC00 || ltb 0xD7A3 lo
 

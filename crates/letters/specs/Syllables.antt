@@ -37,7 +37,7 @@ unfoldable pub partsTo : ℕ → ℕ → List ℕ
 partsTo zero c = c ∷ []
 partsTo (suc depth) c = each (λ p. partsTo depth p) (oneStep c)
 
--- full parts: at the depth 2 nothing changes any more (`parts-closed` of proofs/Parts)
+-- full parts: at the depth 2 nothing changes any more (`parts-closed` of proofs/FullParts)
 abbrev pub partsOf : ℕ → List ℕ
 partsOf c = partsTo 2 c
 

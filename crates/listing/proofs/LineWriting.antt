@@ -94,7 +94,7 @@ module _ (c : ℕ) {out part : List ℕ} {at : ℕ} {r : Filled} (room : Room ou
   pub wrote-named : {k : ℕ} → r ≡ Done k → Wrote out at (nameOrNone c) (at + k) (withAfter out at part)
   wrote-named done =
       let h = done-named c named done in
-      record { behind = ap (λ (n : ℕ). at + n) (h .0); holds = rw (h .1) (put-front out at (nameOrNone c) (room .fits)) }
+      record { after = ap (λ (n : ℕ). at + n) (h .0); holds = rw (h .1) (put-front out at (nameOrNone c) (room .fits)) }
 
   module _ {refusal : Refusal} (refused : r ≡ Refused refusal) where
     put-back : withAfter out at part ≡ out

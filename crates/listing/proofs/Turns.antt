@@ -69,7 +69,7 @@ module _ (text : List ℕ) {line : List ℕ} where
 
     module _ {t : Taken} (character : Character form8 text read t) {k : ℕ} {line′ : List ℕ} (wrote : Wrote line 0 (lineOf (t .code)) k line′) where
       length-is : k ≡ length (lineOf (t .code))
-      length-is = omega (arith, wrote .behind)
+      length-is = omega (arith, wrote .after)
 
       pub tallying-fits : length text ≤ 16384 → counted + k ≤ 163840
       tallying-fits l =

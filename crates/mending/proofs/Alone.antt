@@ -137,7 +137,7 @@ tail-initial c l m =
     rw (q, r) (omega arith)
 
 module _ (text : List ℕ) (at : ℕ) {tail : ℕ} (found : Tail text at tail) {r : Taken} (letter : OfTail tail r)
-    (behind : tail ≤ 0x8492 → within 0x1161 0x1175 (takenFrom (pieces kindOf (drop (at + 3) text)) .code) ≡ false) where
+    (after : tail ≤ 0x8492 → within 0x1161 0x1175 (takenFrom (pieces kindOf (drop (at + 3) text)) .code) ≡ false) where
   letter-apart : pair (r .code) (takenFrom (pieces kindOf (drop (at + 3) text)) .code) ≡ 0
   letter-apart =
       let b = takenFrom (pieces kindOf (drop (at + 3) text)) .code in
@@ -146,7 +146,7 @@ module _ (text : List ℕ) (at : ℕ) {tail : ℕ} (found : Tail text at tail) {
       let k = initial-range (r .code) i in
       let q = peak-range b p in
       let h : tail ≤ 0x8492 = omega (arith, letter .is, tail-initial (r .code) (k .0) (k .1)) in
-      false≢true (sym (behind h) ∙ within-yes 0x1161 0x1175 b (q .0) (q .1)))
+      false≢true (sym (after h) ∙ within-yes 0x1161 0x1175 b (q .0) (q .1)))
       (λ v f. omega (arith, syllable-least (r .code) (lv-syllable (r .code) v), letter .most))
 
   pub letter-character : r ≡ characterFrom (pieces kindOf (drop at text))

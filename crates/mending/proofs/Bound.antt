@@ -5,7 +5,7 @@
 -- (`mended-most`): what grows is an ill-formed part of one byte or two, which becomes the three
 -- bytes of U+FFFD.
 --
--- In order: the bounds of one code point (`Bounded`); code points that are covered by so many units
+-- It has: the bounds of one code point (`Bounded`); code points that are covered by so many units
 -- (`Covers`), as those are that a text reads as (`reading-covers`); what joins gives no more
 -- (`second-letter`, `pair-most`, `joined-covered`); the bound (`each-most`); and at UTF-8, where
 -- the bounds of single code points are enough (`bounded8`, `mended-most`).

@@ -1,4 +1,4 @@
--- The first character of a text of units, in any encoding form. In order: a piece in front
+-- The first character of a text of units, in any encoding form. It has: a piece in front
 -- (`taken-code`, `taken-size`); a character that takes in nothing (`apart-ill`, `apart-end`,
 -- `grown-stops`, `apart-after`); taking in one piece, as the code does (`grown-once-stays`,
 -- `grown-once-takes`, `grown-once-inside`), and that two are all; the functions' returns
@@ -23,7 +23,7 @@ use Rattle.joining.specs.Roles.{roleOf, pair}
 use Rattle.joining.specs.declared.role.Role.the-variants.{Initial, Lv}
 use Rattle.joining.specs.Joining.{join}
 use Rattle.joining.proofs.Roles.{role-between}
-use Rattle.joining.proofs.Pairs.{pair-firm, pair-behind, pair-good, no-fourth}
+use Rattle.joining.proofs.Pairs.{pair-firm, pair-after, pair-good, no-fourth}
 use Rattle.joining.proofs.Joins.{join-one, join-apart, join-joined}
 use Rattle.encodings.specs.Pieces.{Piece, good, ill, units, full, illCount}
 use Rattle.encodings.specs.Damage.{codes, codeOf}
@@ -49,7 +49,7 @@ apart-end a = pair-firm a 0 (role-between 0 0 0 tt (omega arith) (omega arith)) 
 -- nor does what goes on with nothing
 pub apart-after : (a : ℕ) → roleGoesOn (roleOf a) ≡ false → (b : ℕ) → pair a b ≡ 0
 apart-after a h b =
-    pair-behind a b (λ (e : roleOf a ≡ Initial). false≢true (sym h ∙ ap roleGoesOn e)) (λ (e : roleOf a ≡ Lv). false≢true (sym h ∙ ap roleGoesOn e))
+    pair-after a b (λ (e : roleOf a ≡ Initial). false≢true (sym h ∙ ap roleGoesOn e)) (λ (e : roleOf a ≡ Lv). false≢true (sym h ∙ ap roleGoesOn e))
 
 end-not : roleGoesOn (roleOf 0) ≡ false
 end-not = ap roleGoesOn (role-between 0 0 0 tt (omega arith) (omega arith))

@@ -2,7 +2,7 @@
 -- every beginning, every ending and whatever stands between them, and over a call's contract. The
 -- general law stands in crate encodings (proofs/Damage); here it is at the joiner.
 --
--- In order: what is not soft joins with nothing before it (`soft-hard`); joining and writing may be
+-- It has: what is not soft joins with nothing before it (`soft-hard`); joining and writing may be
 -- cut (`joined-cuttable`); mending keeps its beginning and its ending (`mended-keeps`), where these
 -- have their places (`ending-at`, `beginning-at`), and falls apart around ill-formed units
 -- (`mended-around`); what a call that is done filled and counted (`done-filled`, `done-ills`,

@@ -2,25 +2,25 @@
 --
 -- In order: ASCII, one byte and eight (`low-character`, `low-passes`, `low-eight`); a letter of the
 -- block 1100–11FF begins with E1 (`letter-first`), so before any other byte nothing joins
--- (`apart-behind`) and a character of three bytes passes (`three-stands`, `three-character`,
--- `three-passes`), also as the last of a text (`three-last`); its first two bytes, tested in one
--- number (`lead-number`, `lead-three`); the high bits of eight bytes, tested so (`bit-none`,
--- `word-low`); and a character that has room was written (`fits-placed`).
+-- (`apart-after`) and a character of three bytes passes (`three-character`, `three-passes`), also
+-- as the last of a text (`three-last`); its first two bytes, tested in one number (`lead-number`,
+-- `lead-three`); the high bits of eight bytes, tested so (`bit-none`, `word-low`); and a character
+-- that has room was written (`fits-placed`).
 use mathlib.Core.Path.{_≡_, refl, sym, _∙_, ap}
 use mathlib.Core.Bool.{true}
 use mathlib.Core.List.{List, [], _∷_, _++_}
-use Prim.Native.Nat.{ℕ, suc, _+_, _*_, _/_, _%_, _^_, _≤_, _<_}
+use Prim.Native.Nat.{ℕ, _+_, _*_, _/_, _%_, _^_, _≤_, _<_}
 use native.Mathlib.Nat.{add-zero, zero-div}
-use native.Mathlib.Numerals.{add-one}
 use native.Mathlib.Omega.{arith}
 use lib.Bits.{bitAnd, and-shr, and-mod, and-mask}
 use lib.Dec.{ltb, eqb}
 use lib.ListN.{length, getD, drop, List·getD-eq-default}
-use lib.Seq.{drop-cons, getD-drop}
+use lib.Seq.{getD-drop}
 use borrow.Author.Tests.{eq-eqb, eqb-true, ltb-true, ltb-false}
 use Rattle.laws.specs.Ranges.{within}
 use Rattle.laws.specs.Writing.{fitted, Wrote}
 use Rattle.laws.proofs.Bools.{test}
+use Rattle.laws.proofs.Lists.{at-index, three-at}
 use Rattle.laws.proofs.Ranges.{within-least, within-most}
 use Rattle.joining.specs.Roles.{pair}
 use Rattle.joining.proofs.Roles.{role-between, peak-range, final-range}
@@ -44,20 +44,17 @@ use Rattle.mending.proofs.Turns.{passes-none, passes-on, passes-full, w
 -- ---- ASCII
 
 module _ (text : List ℕ) (at : ℕ) (h : at < length text) (l : getD text at 0 < 0x80) where
-  low-stands : drop at text ≡ getD text at 0 ∷ drop (at + 1) text
-  low-stands = rw add-one (drop-cons text at 0 h)
-
   low-full : kindOf (getD text at 0 ∷ []) ≡ full
   low-full = full-by table37 (getD text at 0) (row-between table37 0x00 0x7F tt (omega arith) (omega arith)) ends
 
   pub low-character : goodOf (getD text at 0) 1 ≡ characterFrom (pieces kindOf (drop at text))
   low-character =
       let a = getD text at 0 in
-      character-full encodes8 text at (a ∷ []) low-stands low-full
+      character-full encodes8 text at (a ∷ []) (at-index 0 text at h) low-full
       (grown-stops form8 (goodOf a 1) (pieces kindOf (drop (at + 1) text)) (λ b. pair-none a b (role-between 0x00 0x7F a tt (omega arith) (omega arith))))
 
   pub low-passes : Passes text at (at + 1)
-  low-passes = passes-full encodes8 text at (getD text at 0 ∷ []) low-stands low-full h low-character
+  low-passes = passes-full encodes8 text at (getD text at 0 ∷ []) (at-index 0 text at h) low-full h low-character
 
 -- one byte in front of what passes
 low-on : (text : List ℕ) (at to : ℕ) → to ≡ at + 1 → getD text at 0 < 0x80 → {end : ℕ} → Passes text to end → Passes text at end
@@ -98,8 +95,8 @@ apart-reading c n (formed u {t} f r) h =
 apart-reading c n (broken u m r) h =
     rw (eq-eqb (pair c 0xFFFD) 0 (apart-ill c))
 
-pub apart-behind : (c n : ℕ) (t : List ℕ) → (getD t 0 0 ≡ 0xE1 → ⊥) → grownIn form8 (goodOf c n) (pieces kindOf t) ≡ goodOf c n
-apart-behind c n t h = apart-reading c n (reading-in encodes8 t) h
+pub apart-after : (c n : ℕ) (t : List ℕ) → (getD t 0 0 ≡ 0xE1 → ⊥) → grownIn form8 (goodOf c n) (pieces kindOf t) ≡ goodOf c n
+apart-after c n t h = apart-reading c n (reading-in encodes8 t) h
 
 -- a, b and c are well-formed
 three-full : {a b c d : ℕ} → Three a b c d → kindOf (a ∷ b ∷ c ∷ []) ≡ full
@@ -114,20 +111,6 @@ three-full {a} {b} {c} h =
     (goes (h .second-least) (h .second-ed e) (goes (h .third-least) (h .third-most) ends)))
 
 -- they stand in front
-pub three-stands : (text : List ℕ) (at : ℕ) → at + 3 ≤ length text
-    → drop at text ≡ getD text at 0 ∷ getD text (at + 1) 0 ∷ getD text (at + 2) 0 ∷ drop (at + 3) text
-three-stands text at h =
-    let two : at + 2 ≡ suc (suc at) = omega arith in
-    let three : at + 3 ≡ suc (suc (suc at)) = omega arith in
-    rw (
-      add-one,
-      two,
-      three,
-      drop-cons text at 0 (omega arith),
-      drop-cons text (suc at) 0 (omega arith),
-      drop-cons text (suc (suc at)) 0 (omega arith),
-    )
-
 module _ (text : List ℕ) (at : ℕ) (h : at + 3 ≤ length text) {d : ℕ} (e : d ≡ getD text (at + 3) 0)
     (t : Three (getD text at 0) (getD text (at + 1) 0) (getD text (at + 2) 0) d) where
   pub three-character : goodOf (valueOf (getD text at 0 ∷ getD text (at + 1) 0 ∷ getD text (at + 2) 0 ∷ [])) 3
@@ -135,12 +118,12 @@ module _ (text : List ℕ) (at : ℕ) (h : at + 3 ≤ length text) {d : ℕ} (e 
   three-character =
       let u = getD text at 0 ∷ getD text (at + 1) 0 ∷ getD text (at + 2) 0 ∷ [] in
       let next : getD (drop (at + 3) text) 0 0 ≡ getD text (at + 3) 0 = getD-drop (at + 3) text 0 0 ∙ rw add-zero in
-      character-full encodes8 text at u (three-stands text at h) (three-full t)
-      (apart-behind (valueOf u) 3 (drop (at + 3) text) (λ z. t .apart (e ∙ sym next ∙ z)))
+      character-full encodes8 text at u (three-at 0 text at h) (three-full t)
+      (apart-after (valueOf u) 3 (drop (at + 3) text) (λ z. t .apart (e ∙ sym next ∙ z)))
 
   pub three-passes : Passes text at (at + 3)
   three-passes =
-      passes-full encodes8 text at (getD text at 0 ∷ getD text (at + 1) 0 ∷ getD text (at + 2) 0 ∷ []) (three-stands text at h) (three-full t) (omega arith)
+      passes-full encodes8 text at (getD text at 0 ∷ getD text (at + 1) 0 ∷ getD text (at + 2) 0 ∷ []) (three-at 0 text at h) (three-full t) (omega arith)
       three-character
 
 -- the last three bytes of a text

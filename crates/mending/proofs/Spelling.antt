@@ -14,6 +14,7 @@ use lib.ListN.{length, getD, drop, length-drop}
 use borrow.Author.Tests.{ltb-true, ltb-false}
 use Rattle.laws.specs.Ranges.{within}
 use Rattle.laws.proofs.Bools.{test}
+use Rattle.laws.proofs.Lists.{three-at}
 use Rattle.laws.proofs.Ranges.{within-yes, within-least, within-most}
 use Rattle.answers.proofs.Checks.{good-low}
 use Rattle.joining.specs.Roles.{pair}
@@ -32,7 +33,6 @@ use Rattle.utf8.proofs.Round.{encodes8, full-bytes, bytes-value}
 use Rattle.mending.specs.Characters.{grownIn, characterFrom}
 use Rattle.mending.specs.Inner.{tailOf, Tail, lastOf}
 use Rattle.mending.proofs.Characters.{grown-stops, character-grown, grown-takes, grown-stays}
-use Rattle.mending.proofs.Passes.{three-stands}
 
 -- ---- the bytes of a letter
 
@@ -76,7 +76,7 @@ module _ (c : ℕ) (least : 0x1100 ≤ c) (most : c ≤ 0x11FF) where
     bytes-letter : Letter text at c → takenFrom (pieces kindOf (drop at text)) ≡ goodOf c 3
     bytes-letter l =
         let s : drop at text ≡ bytesOf c ++ drop (at + 3) text =
-        three-stands text at (l .inside) ∙ rw (l .first, l .second, l .third, letter-first) in
+        three-at 0 text at (l .inside) ∙ rw (l .first, l .second, l .third, letter-first) in
         ap (λ (x : List ℕ). takenFrom (pieces kindOf x)) s ∙ ap takenFrom (units-piece encodes8 c (good-low c (omega arith)) (drop (at + 3) text))
         ∙ rw (bytes-value c, ← (long-three c (omega arith) (omega arith)))
 

@@ -1,4 +1,4 @@
--- One turn of the loops over a text, and the loops, in any encoding form. In order: the units
+-- One turn of the loops over a text, and the loops, in any encoding form. It has: the units
 -- between two indices, copied one by one (`Copying` and its laws); a part that passes
 -- (`passes-none`, `passes-on`, `passes-full`, `passes-length`); a turn that writes: a character has
 -- room and was written (`wrote-placed`, `character-fits`, `character-moved`), so with units that
@@ -8,12 +8,10 @@
 use mathlib.Core.Path.{_≡_, refl, sym, _∙_, ap}
 use mathlib.Core.List.{List, [], _∷_, _++_, append-assoc}
 use Prim.Native.Nat.{ℕ, _+_, _-_, _*_, _≤_, _<_}
-use native.Mathlib.Numerals.{add-one}
 use native.Mathlib.Omega.{arith}
-use lib.Seq.{drop-cons}
 use lib.ListN.{length, getD, drop, set, length-append, length-drop, drop-of-length-le}
 use Rattle.laws.specs.Writing.{Wrote}
-use Rattle.laws.proofs.Lists.{cut-front, each-nil}
+use Rattle.laws.proofs.Lists.{cut-front, at-index, each-nil}
 use Rattle.laws.proofs.Filling.{Filling, Counting, wrote-one, wrote-none, wrote-two, wrote-length, counting-none, counting-more, counting-all, filling-none, filling-count, filling-length, filling-more, filling-all}
 use Rattle.answers.proofs.Checks.{good-most}
 use Rattle.encodings.specs.Pieces.{full}
@@ -43,7 +41,7 @@ module _ (text : List ℕ) {at : ℕ} {out₀ : List ℕ} {k₀ : ℕ} where
   module _ {read : ℕ} {out : List ℕ} {k : ℕ} (c : Copying text at read out₀ k₀ out k) where
     pub copying-index : at ≤ read → read ≤ length text → k ≡ k₀ + (read - at)
     copying-index h l =
-        omega (arith, c .wrote .behind, simp length-append at (ap length (c .stands)), length-drop at text, length-drop read text)
+        omega (arith, c .wrote .after, simp length-append at (ap length (c .stands)), length-drop at text, length-drop read text)
 
     pub copying-length : length out ≡ length out₀
     copying-length = wrote-length (c .wrote)
@@ -51,7 +49,7 @@ module _ (text : List ℕ) {at : ℕ} {out₀ : List ℕ} {k₀ : ℕ} where
     pub copying-more : read < length text → Copying text at (read + 1) out₀ k₀ (set out k (getD text read 0)) (k + 1)
     copying-more h = record {
       done = c .done ++ (getD text read 0 ∷ []);
-      stands = rw (add-one, append-assoc) (c .stands ∙ ap (λ (l : List ℕ). c .done ++ l) (drop-cons text read 0 h));
+      stands = rw append-assoc (c .stands ∙ ap (λ (l : List ℕ). c .done ++ l) (at-index 0 text read h));
       wrote = wrote-two (record { eq = refl }) (c .wrote) (wrote-one refl);
     }
 

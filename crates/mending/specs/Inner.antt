@@ -2,7 +2,7 @@
 -- they read there, and what they leave in the buffer. Over any encoding form, and in short names at
 -- UTF-8.
 --
--- In order: a part of a text (`GoesIn`), one that stands as it is in the mended text (`PassesIn`),
+-- It has: a part of a text (`GoesIn`), one that stands as it is in the mended text (`PassesIn`),
 -- and its copy (`Copies`); one turn of the loop that writes (`ReadyIn`, `MovedIn`, and for a
 -- character `FitsIn`, `PlacedIn`) and of the one that counts (`CountReadyIn`, `CountMovedIn`,
 -- `CountFitsIn`, `CountPlacedIn`); their short names. Then what is UTF-8's own: three bytes that

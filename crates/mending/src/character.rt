@@ -1,5 +1,5 @@
 // The character at an index of a text of bytes: a code point, with those after it that join to it.
-// This is the general way. Each fast path answers what it would answer.
+// This is the general path. Each fast path answers what it would answer.
 use encodings::Taken;
 use joining::Role;
 ghost use mathlib.Core.Path.{_≡_};

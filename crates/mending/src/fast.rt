@@ -1,5 +1,5 @@
-// The character at an index by the shortest way: ASCII, a syllable spelled in letters, or a
-// finished syllable to which nothing joins; else by the general way.
+// The character at an index by a fast path: ASCII, a syllable spelled in letters, or a finished
+// syllable to which nothing joins; else by the general path.
 use encodings::Taken;
 ghost use mathlib.Core.Path.{_≡_};
 ghost use mathlib.Core.List.{[], _∷_};

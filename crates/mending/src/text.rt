@@ -67,7 +67,7 @@ fn set(out: &mut [u8], s: At, taken: Taken) -> At
     }
 }
 
-// One character: the fast paths for one that joins to nothing, then the general way.
+// One character: the fast paths for one that joins to nothing, then the general path.
 fn make(text: &[u8], out: &mut [u8], s: At) -> At
     requires { ⌜ Ready (now text) (now out) s ⌝ }
     ensures { λ r. ⌜ Moved (now (text .entry)) (now (out .entry)) s r (now (out .exit)) ⌝ }

@@ -1,4 +1,4 @@
--- Which syllable has a name, and the round trips of the two calls. In order: the first of n
+-- Which syllable has a name, and the round trips of the two calls. It has: the first of n
 -- syllables that has the name (`from-is`, `from-none`); `named` finds the syllable that has the
 -- name, and nothing if none has it (`named-some`, `named-is`, `named-none`, `none-named`); an
 -- answer is known by its reading, so each contract admits one result (`namedAs-injective`,
@@ -8,7 +8,7 @@
 -- IS READ IS THE SYLLABLE'S (`name-read`).
 use mathlib.Core.Path.{_≡_, refl, sym, _∙_, ap}
 use mathlib.Core.Bool.{Bool, true, false, cond}
-use mathlib.Core.Option.{Option, none, some}
+use mathlib.Core.Option.{Option, none, some, Option·none-ne-some}
 use mathlib.Core.List.{List, [], _∷_}
 use Prim.Native.Nat.{ℕ, zero, suc, _+_, _≤_, _<_}
 use native.Mathlib.Omega.{arith}
@@ -47,12 +47,9 @@ use Rattle.names.proofs.Writing.{no-syllable-refuses, no-syllable-passe
 
 -- ---- the first of n syllables from s on
 
-none-not-some : {s : ℕ} → none ≡ some s → ⊥
-none-not-some e = let z : _≡_ {A = ℕ} 0 1 = cc in omega arith
-
 from-is : (n s t : ℕ) (name : List ℕ) → namedFrom n s name ≡ some t → (s ≤ t) × (t < s + n) × (nameOf t ≡ name)
 unfolding namedFrom
-from-is zero s t name e = absurd (none-not-some e)
+from-is zero s t name e = absurd (Option·none-ne-some _ e)
 from-is (suc n) s t name e = by (same (nameOf s) name) refl e (from-is n (suc s) t name)
   where
     by : (b : Bool) → same (nameOf s) name ≡ b → cond b (some s) (namedFrom n (suc s) name) ≡ some t
@@ -69,7 +66,7 @@ from-none (suc n) s t name e l h q = by (same (nameOf s) name) refl e (from-none
   where
     by : (b : Bool) → same (nameOf s) name ≡ b → cond b (some s) (namedFrom n (suc s) name) ≡ none
         → (namedFrom n (suc s) name ≡ none → suc s ≤ t → t < suc s + n → nameOf t ≡ name → ⊥) → ⊥
-    by true r e rest = none-not-some (sym e)
+    by true r e rest = Option·none-ne-some _ (sym e)
     by false r e rest =
         test (eqb s t) (λ k. same-false (nameOf s) name r (ap nameOf (eqb-true s t k) ∙ q))
         (λ k. let apart = eqb-false s t k in rest e (omega arith) (omega arith) q)

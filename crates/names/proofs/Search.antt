@@ -21,7 +21,7 @@ use Rattle.laws.specs.Lists.{All, also}
 use Rattle.laws.specs.Strings.{same, begins, picked}
 use Rattle.laws.proofs.Bools.{test, and-left}
 use Rattle.laws.proofs.Lists.{all-at}
-use Rattle.laws.proofs.Strings.{same-true, same-false, same-begins, same-other-length, begins-append, begins-behind, begins-false, begins-least, begins-short, begins-here, begins-not-here, begins-on, begins-not-on}
+use Rattle.laws.proofs.Strings.{same-true, same-false, same-begins, same-other-length, begins-append, begins-after, begins-false, begins-least, begins-short, begins-here, begins-not-here, begins-on, begins-not-on}
 use Rattle.names.specs.Names.{initials, peaks, finals, prefix, nameBy}
 use Rattle.names.specs.Inner.{stringOf, Spells, vowel, vowelFirst, followed}
 use Rattle.names.specs.declared.strings.Part.{Part}
@@ -63,27 +63,27 @@ module _ (part : Part) (few : part .length ≤ 3) (rest : List ℕ) where
       goes-1 e = rw e (sym (begins-here (part .first) [] rest 0 (omega arith) first))
 
       module _ (more : part .length ≡ 1 → ⊥) where
-        behind-first : begins (stringOf part) rest ≡ begins (part .second ∷ take (part .length - 2) (part .third ∷ [])) (drop 1 rest)
-        behind-first =
+        after-first : begins (stringOf part) rest ≡ begins (part .second ∷ take (part .length - 2) (part .third ∷ [])) (drop 1 rest)
+        after-first =
             rw (spelled-more part some more)
             (begins-here (part .first) (part .second ∷ take (part .length - 2) (part .third ∷ [])) rest 0 (omega arith) first)
 
         pub goes-not-second : (getD rest 1 0 ≡ part .second → ⊥) → false ≡ begins (stringOf part) rest
         goes-not-second h =
-            sym (behind-first ∙ begins-not-here (part .second) (take (part .length - 2) (part .third ∷ [])) rest 1 (omega arith) h)
+            sym (after-first ∙ begins-not-here (part .second) (take (part .length - 2) (part .third ∷ [])) rest 1 (omega arith) h)
 
         module _ (second : getD rest 1 0 ≡ part .second) where
-          behind-second : begins (stringOf part) rest ≡ begins (take (part .length - 2) (part .third ∷ [])) (drop 2 rest)
-          behind-second =
-              behind-first ∙ begins-here (part .second) (take (part .length - 2) (part .third ∷ [])) rest 1 (omega arith) second
+          after-second : begins (stringOf part) rest ≡ begins (take (part .length - 2) (part .third ∷ [])) (drop 2 rest)
+          after-second =
+              after-first ∙ begins-here (part .second) (take (part .length - 2) (part .third ∷ [])) rest 1 (omega arith) second
 
           pub goes-2 : part .length ≡ 2 → true ≡ begins (stringOf part) rest
-          goes-2 e = sym (behind-second ∙ rw e)
+          goes-2 e = sym (after-second ∙ rw e)
 
           pub goes-3 : (part .length ≡ 2 → ⊥) → eqb (getD rest 2 0) (part .third) ≡ begins (stringOf part) rest
           goes-3 n =
               let e : part .length ≡ 3 = omega arith in
-              sym (behind-second ∙ rw e (third-letter (omega arith)))
+              sym (after-second ∙ rw e (third-letter (omega arith)))
             where
               third-letter : 2 < length rest → begins (part .third ∷ []) (drop 2 rest) ≡ eqb (getD rest 2 0) (part .third)
               third-letter h =
@@ -125,8 +125,8 @@ vowel-no c h =
     )
 
 module _ (name : List ℕ) (at : ℕ) where
-  pub vowel-behind : length name ≤ at → false ≡ vowelFirst (drop at name)
-  vowel-behind h = rw (drop-of-length-le name h)
+  pub vowel-after : length name ≤ at → false ≡ vowelFirst (drop at name)
+  vowel-after h = rw (drop-of-length-le name h)
 
   pub vowel-here : at < length name → {told : Bool} → told ≡ vowel (getD name at 0) → told ≡ vowelFirst (drop at name)
   vowel-here h e = rw (drop-cons name at 0 h) e
@@ -205,11 +205,11 @@ final-first f h = free-first (getD finals f []) (all-at [] (name-splits .third-f
 -- ---- a name's three strings at their indices
 
 -- the index after the initial's string, and after the peak's
-abbrev behindInitial : ℕ → ℕ
-behindInitial i = 16 + length (getD initials i [])
+abbrev afterInitial : ℕ → ℕ
+afterInitial i = 16 + length (getD initials i [])
 
-abbrev behindPeak : ℕ → ℕ → ℕ
-behindPeak i p = behindInitial i + length (getD peaks p [])
+abbrev afterPeak : ℕ → ℕ → ℕ
+afterPeak i p = afterInitial i + length (getD peaks p [])
 
 -- the name is not that of i, p and f; it is with no final; it is with no peak
 abbrev Miss : List ℕ → ℕ → ℕ → ℕ → Type 0
@@ -227,14 +227,14 @@ module _ (name : List ℕ) (i p f : ℕ) where
     unfolding nameBy prefix
     from-initial = ap (drop 16) e
 
-    from-peak : drop (behindInitial i) name ≡ getD peaks p [] ++ getD finals f []
+    from-peak : drop (afterInitial i) name ≡ getD peaks p [] ++ getD finals f []
     from-peak =
         sym (drop-drop (length (getD initials i [])) 16 name) ∙ ap (drop (length (getD initials i []))) from-initial
         ∙ drop-append-seam (getD initials i []) (getD peaks p [] ++ getD finals f [])
 
-    from-final : drop (behindPeak i p) name ≡ getD finals f []
+    from-final : drop (afterPeak i p) name ≡ getD finals f []
     from-final =
-        sym (drop-drop (length (getD peaks p [])) (behindInitial i) name) ∙ ap (drop (length (getD peaks p []))) from-peak
+        sym (drop-drop (length (getD peaks p [])) (afterInitial i) name) ∙ ap (drop (length (getD peaks p []))) from-peak
         ∙ drop-append-seam (getD peaks p []) (getD finals f [])
 
   prefix-miss : begins prefix name ≡ false → Miss name i p f
@@ -245,30 +245,30 @@ module _ (name : List ℕ) (i p f : ℕ) where
   initial-miss h k e =
       followed-false (getD initials i []) true (drop 16 name) h (getD peaks p [] ++ getD finals f []) (from-initial e) (peak-first p k (getD finals f []))
 
-  peak-miss : followed (getD peaks p []) false (drop (behindInitial i) name) ≡ false → f < 28 → Miss name i p f
-  peak-miss h k e = followed-false (getD peaks p []) false (drop (behindInitial i) name) h (getD finals f []) (from-peak e) (final-first f k)
+  peak-miss : followed (getD peaks p []) false (drop (afterInitial i) name) ≡ false → f < 28 → Miss name i p f
+  peak-miss h k e = followed-false (getD peaks p []) false (drop (afterInitial i) name) h (getD finals f []) (from-peak e) (final-first f k)
 
-  final-miss : same (getD finals f []) (drop (behindPeak i p) name) ≡ false → Miss name i p f
-  final-miss h e = same-false (getD finals f []) (drop (behindPeak i p) name) h (sym (from-final e))
+  final-miss : same (getD finals f []) (drop (afterPeak i p) name) ≡ false → Miss name i p f
+  final-miss h e = same-false (getD finals f []) (drop (afterPeak i p) name) h (sym (from-final e))
 
   -- the prefix and all three are there
   name-there : begins prefix name ≡ true → begins (getD initials i []) (drop 16 name) ≡ true
-      → begins (getD peaks p []) (drop (behindInitial i) name) ≡ true → same (getD finals f []) (drop (behindPeak i p) name) ≡ true
+      → begins (getD peaks p []) (drop (afterInitial i) name) ≡ true → same (getD finals f []) (drop (afterPeak i p) name) ≡ true
       → name ≡ nameBy i p f
   unfolding nameBy prefix
   name-there begun initial peak final =
-      begins-behind prefix name begun ∙ ap (λ (l : List ℕ). prefix ++ l) behind-prefix
+      begins-after prefix name begun ∙ ap (λ (l : List ℕ). prefix ++ l) after-prefix
     where
-      behind-initial : drop (behindInitial i) name ≡ getD peaks p [] ++ getD finals f []
-      behind-initial =
-          begins-behind (getD peaks p []) (drop (behindInitial i) name) peak
+      after-initial : drop (afterInitial i) name ≡ getD peaks p [] ++ getD finals f []
+      after-initial =
+          begins-after (getD peaks p []) (drop (afterInitial i) name) peak
           ∙ ap (λ (l : List ℕ). getD peaks p [] ++ l)
-          (drop-drop (length (getD peaks p [])) (behindInitial i) name ∙ sym (same-true (getD finals f []) (drop (behindPeak i p) name) final))
+          (drop-drop (length (getD peaks p [])) (afterInitial i) name ∙ sym (same-true (getD finals f []) (drop (afterPeak i p) name) final))
 
-      behind-prefix : drop 16 name ≡ getD initials i [] ++ (getD peaks p [] ++ getD finals f [])
-      behind-prefix =
-          begins-behind (getD initials i []) (drop 16 name) initial
-          ∙ ap (λ (l : List ℕ). getD initials i [] ++ l) (drop-drop (length (getD initials i [])) 16 name ∙ behind-initial)
+      after-prefix : drop 16 name ≡ getD initials i [] ++ (getD peaks p [] ++ getD finals f [])
+      after-prefix =
+          begins-after (getD initials i []) (drop 16 name) initial
+          ∙ ap (λ (l : List ℕ). getD initials i [] ++ l) (drop-drop (length (getD initials i [])) 16 name ∙ after-initial)
 
 -- ---- what a search of a table of so many rows keeps: if what stands before does not fit, it
 -- begins after the last row
@@ -281,13 +281,13 @@ module _ {rows : ℕ} {fits : Bool} {Passed : ℕ → Type 0} where
   -- `told` is what the code's test said, `row` where it begins
   tried-none : (fits ≡ false → (j : ℕ) → j < rows → Passed j) → {told : Bool} {row : ℕ} → told ≡ fits → row ≡ cond told 0 rows
       → Tried rows fits Passed row
-  tried-none miss {told} {row} e q = test fits (λ h. begin h (q ∙ rw (e, h))) (λ h. behind h (q ∙ rw (e, h)))
+  tried-none miss {told} {row} e q = test fits (λ h. begin h (q ∙ rw (e, h))) (λ h. after h (q ∙ rw (e, h)))
     where
       begin : fits ≡ true → row ≡ 0 → Tried rows fits Passed row
       begin h z = record { before = λ k. h; passed = λ j k. absurd (omega arith) }
 
-      behind : fits ≡ false → row ≡ rows → Tried rows fits Passed row
-      behind h z = record { before = λ k. absurd (omega arith); passed = λ j k. miss h j (omega arith) }
+      after : fits ≡ false → row ≡ rows → Tried rows fits Passed row
+      after h z = record { before = λ k. absurd (omega arith); passed = λ j k. miss h j (omega arith) }
 
   tried-more : {row : ℕ} → Tried rows fits Passed row → row < rows → Passed row → Tried rows fits Passed (row + 1)
   tried-more t h p = record { before = λ k. t .before h; passed = below-more _ _ (t .passed) p }
@@ -307,15 +307,15 @@ pub record Peaks (name : List ℕ) (i : ℕ) (first : Part) (p : ℕ) : Type 0 w
 pub record Finals (name : List ℕ) (i : ℕ) (first : Part) (p : ℕ) (second : Part) (f : ℕ) : Type 0 where
   pub initial : Spells first (getD initials i [])
   pub peak : Spells second (getD peaks p [])
-  tried : Tried 28 (followed (getD peaks p []) false (drop (behindInitial i) name)) (Miss name i p) f
+  tried : Tried 28 (followed (getD peaks p []) false (drop (afterInitial i) name)) (Miss name i p) f
 
 -- the indices after the strings, as the code has them
-initial-behind : {first : Part} (i : ℕ) → Spells first (getD initials i []) → 16 + first .length ≡ behindInitial i
-initial-behind i initial = ap (λ (n : ℕ). 16 + n) (spells-size initial)
+initial-after : {first : Part} (i : ℕ) → Spells first (getD initials i []) → 16 + first .length ≡ afterInitial i
+initial-after i initial = ap (λ (n : ℕ). 16 + n) (spells-size initial)
 
-peak-behind : {first second : Part} (i p : ℕ) → Spells first (getD initials i []) → Spells second (getD peaks p [])
-    → 16 + first .length + second .length ≡ behindPeak i p
-peak-behind i p initial peak = omega (arith, initial-behind i initial, spells-size peak)
+peak-after : {first second : Part} (i p : ℕ) → Spells first (getD initials i []) → Spells second (getD peaks p [])
+    → 16 + first .length + second .length ≡ afterPeak i p
+peak-after i p initial peak = omega (arith, initial-after i initial, spells-size peak)
 
 -- what is left of a name from an index on, as the code lends it
 abbrev lent : ℕ → List ℕ → List ℕ
@@ -341,14 +341,14 @@ module _ {name : List ℕ} where
   finals-none {i} {p} {first} middle peak e q = record {
     initial = middle .initial;
     peak = peak;
-    tried = tried-none (λ h j k. peak-miss name i p j h k) (e ∙ rw (peak .is, lent-is (16 + first .length) name, initial-behind i (middle .initial))) q;
+    tried = tried-none (λ h j k. peak-miss name i p j h k) (e ∙ rw (peak .is, lent-is (16 + first .length) name, initial-after i (middle .initial))) q;
   }
 
   -- the code's test of the final
   final-told : {i p f : ℕ} {first second last : Part} → Finals name i first p second f → Spells last (getD finals f []) → {told : Bool}
-      → told ≡ same (stringOf last) (lent (16 + first .length + second .length) name) → told ≡ same (getD finals f []) (drop (behindPeak i p) name)
+      → told ≡ same (stringOf last) (lent (16 + first .length + second .length) name) → told ≡ same (getD finals f []) (drop (afterPeak i p) name)
   final-told {i} {p} {f} {first} {second} inner final e =
-      e ∙ rw (final .is, lent-is (16 + first .length + second .length) name, peak-behind i p (inner .initial) (inner .peak))
+      e ∙ rw (final .is, lent-is (16 + first .length + second .length) name, peak-after i p (inner .initial) (inner .peak))
 
   pub finals-more : {i p f : ℕ} {first second last : Part} → Finals name i first p second f → f < 28 → Spells last (getD finals f []) → {told : Bool}
       → told ≡ same (stringOf last) (lent (16 + first .length + second .length) name) → told ≡ false → Finals name i first p second (f + 1)
@@ -382,17 +382,17 @@ module _ {name : List ℕ} where
       pub initial-long : 16 + first .length ≤ length name
       initial-long =
           let least = begins-least (getD initials i []) (drop 16 name) initial-there in
-          omega (arith, prefix-long, least, length-drop 16 name, initial-behind i (middle .initial))
+          omega (arith, prefix-long, least, length-drop 16 name, initial-after i (middle .initial))
 
       module _ {f : ℕ} {second : Part} (inner : Finals name i first p second f) (hf : f < 28) where
-        peak-there : begins (getD peaks p []) (drop (behindInitial i) name) ≡ true
-        peak-there = followed-begins (getD peaks p []) false (drop (behindInitial i) name) (inner .tried .before hf)
+        peak-there : begins (getD peaks p []) (drop (afterInitial i) name) ≡ true
+        peak-there = followed-begins (getD peaks p []) false (drop (afterInitial i) name) (inner .tried .before hf)
 
         pub peak-long : 16 + first .length + second .length ≤ length name
         peak-long =
-            let least = begins-least (getD peaks p []) (drop (behindInitial i) name) peak-there in
-            let behind = peak-behind i p (inner .initial) (inner .peak) in
-            omega (arith, initial-long, least, length-drop (behindInitial i) name, initial-behind i (inner .initial), behind)
+            let least = begins-least (getD peaks p []) (drop (afterInitial i) name) peak-there in
+            let after = peak-after i p (inner .initial) (inner .peak) in
+            omega (arith, initial-long, least, length-drop (afterInitial i) name, initial-after i (inner .initial), after)
 
         pub finals-found : {last : Part} → Spells last (getD finals f []) → {told : Bool}
             → told ≡ same (stringOf last) (lent (16 + first .length + second .length) name) → told ≡ true

@@ -101,28 +101,28 @@ module _ (i p f : ℕ) {out : List ℕ} (fits : length (nameBy i p f) ≤ length
   pub room-prefix : Room out 0 prefix
   room-prefix = room-first room-whole (prefix-piece i p f)
 
-  module _ {behind-prefix : ℕ} {out₁ : List ℕ} (wrote-prefix : Wrote out 0 prefix behind-prefix out₁) {initial : Part}
+  module _ {after-prefix : ℕ} {out₁ : List ℕ} (wrote-prefix : Wrote out 0 prefix after-prefix out₁) {initial : Part}
       (spells-initial : Spells initial (getD initials i [])) where
-    room-strings : Room out₁ behind-prefix (picked initials peaks finals i p f)
+    room-strings : Room out₁ after-prefix (picked initials peaks finals i p f)
     room-strings = room-second room-whole (prefix-piece i p f) wrote-prefix
 
-    pub room-initial : Room out₁ behind-prefix (stringOf initial)
+    pub room-initial : Room out₁ after-prefix (stringOf initial)
     room-initial = room-spelled spells-initial (room-first room-strings (initial-piece i p f))
 
-    module _ {behind-initial : ℕ} {out₂ : List ℕ} (wrote-initial : Wrote out₁ behind-prefix (stringOf initial) behind-initial out₂) {peak : Part}
+    module _ {after-initial : ℕ} {out₂ : List ℕ} (wrote-initial : Wrote out₁ after-prefix (stringOf initial) after-initial out₂) {peak : Part}
         (spells-peak : Spells peak (getD peaks p [])) where
-      room-two : Room out₂ behind-initial (getD peaks p [] ++ getD finals f [])
+      room-two : Room out₂ after-initial (getD peaks p [] ++ getD finals f [])
       room-two = room-second room-strings (initial-piece i p f) (wrote-spelled spells-initial wrote-initial)
 
-      pub room-peak : Room out₂ behind-initial (stringOf peak)
+      pub room-peak : Room out₂ after-initial (stringOf peak)
       room-peak = room-spelled spells-peak (room-first room-two (peak-piece i p f))
 
-      module _ {behind-peak : ℕ} {out₃ : List ℕ} (wrote-peak : Wrote out₂ behind-initial (stringOf peak) behind-peak out₃) {last : Part}
+      module _ {after-peak : ℕ} {out₃ : List ℕ} (wrote-peak : Wrote out₂ after-initial (stringOf peak) after-peak out₃) {last : Part}
           (spells-last : Spells last (getD finals f [])) where
-        pub room-last : Room out₃ behind-peak (stringOf last)
+        pub room-last : Room out₃ after-peak (stringOf last)
         room-last = room-spelled spells-last (room-second room-two (peak-piece i p f) (wrote-spelled spells-peak wrote-peak))
 
-        pub wrote-name : {r : ℕ} {out₄ : List ℕ} → Wrote out₃ behind-peak (stringOf last) r out₄ → Wrote out 0 (nameBy i p f) r out₄
+        pub wrote-name : {r : ℕ} {out₄ : List ℕ} → Wrote out₃ after-peak (stringOf last) r out₄ → Wrote out 0 (nameBy i p f) r out₄
         wrote-name w =
             wrote-two (prefix-piece i p f) wrote-prefix
             (wrote-two (initial-piece i p f) (wrote-spelled spells-initial wrote-initial)

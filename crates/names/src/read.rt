@@ -116,7 +116,7 @@ fn start(fits: bool, rows: usize) -> usize
     rows
 }
 
-// The three indices whose strings are the name. An inner table is searched only where the outer
+// The three indices whose strings are the name. An inner table is searched only if the outer
 // string fits, and the search is left as soon as all three fit.
 fn search(name: &[u8], initials: &[u8], peaks: &[u8], finals: &[u8]) -> Found
     requires { ⌜ InitialRows (now initials) ⌝ }

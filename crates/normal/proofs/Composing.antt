@@ -30,9 +30,9 @@ exists-last : (f : ℕ → Bool) (x : List ℕ) (a : ℕ) → f a ≡ true → e
 exists-last f [] a h = rw h
 exists-last f (b ∷ x) a h = rw (exists-last f x a h) (or-true (f b))
 
-behind : ℕ → Sought → Sought
-behind a nowhere = nowhere
-behind a (last before l between) = last before l (between ++ a ∷ [])
+after : ℕ → Sought → Sought
+after a nowhere = nowhere
+after a (last before l between) = last before l (between ++ a ∷ [])
 
 module _ (db : Database) where
   -- ---- R1
@@ -55,16 +55,16 @@ module _ (db : Database) where
   last-starter-at-end [] a h = rw h
   last-starter-at-end (b ∷ x) a h = rw (last-starter-at-end x a h)
 
-  last-starter-before-mark : (x : List ℕ) (a : ℕ) → starter db a ≡ false → lastStarter db (x ++ a ∷ []) ≡ behind a (lastStarter db x)
-  unfolding behind
+  last-starter-before-mark : (x : List ℕ) (a : ℕ) → starter db a ≡ false → lastStarter db (x ++ a ∷ []) ≡ after a (lastStarter db x)
+  unfolding after
   last-starter-before-mark [] a h = rw h
   last-starter-before-mark (b ∷ x) a h = rw (last-starter-before-mark x a h) (more (lastStarter db x))
     where
-      first : (t : Bool) → cond t (last [] b (x ++ a ∷ [])) nowhere ≡ behind a (cond t (last [] b x) nowhere)
+      first : (t : Bool) → cond t (last [] b (x ++ a ∷ [])) nowhere ≡ after a (cond t (last [] b x) nowhere)
       first true = refl
       first false = refl
 
-      more : (s : Sought) → further db b (x ++ a ∷ []) (behind a s) ≡ behind a (further db b x s)
+      more : (s : Sought) → further db b (x ++ a ∷ []) (after a s) ≡ after a (further db b x s)
       more nowhere = first (starter db b)
       more (last u l v) = refl
 
@@ -90,10 +90,10 @@ module _ (db : Database) where
   -- so after a mark C stays, where only starters compose
   pub combined-mark : (x : List ℕ) (a c : ℕ) → starter db a ≡ false → ((l : ℕ) → (db .ccc c ≡ 0) ⊎ (db .composite l c ≡ none))
       → combined db (x ++ a ∷ []) c ≡ (x ++ a ∷ []) ++ c ∷ []
-  unfolding behind
+  unfolding after
   combined-mark x a c h only = rw (last-starter-before-mark x a h) (by (lastStarter db x) (last-starter-found x))
     where
-      by : (s : Sought) → Found db x s → unblocked db (x ++ a ∷ []) c (behind a s) ≡ (x ++ a ∷ []) ++ c ∷ []
+      by : (s : Sought) → Found db x s → unblocked db (x ++ a ∷ []) c (after a s) ≡ (x ++ a ∷ []) ++ c ∷ []
       by nowhere k = refl
       by (last u l v) k =
           ⊎-elim (λ (q : db .ccc c ≡ 0). rw (starter-blocked l v a c (k .1) q))

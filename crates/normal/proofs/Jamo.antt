@@ -7,7 +7,7 @@
 use mathlib.Core.Path.{_≡_, refl, sym, _∙_}
 use mathlib.Core.Bool.{Bool, true, false, cond, _&&_, false≢true}
 use mathlib.Core.Logic.{_⊎_, inl, inr, ⊎-elim}
-use mathlib.Core.Option.{Option, none, some}
+use mathlib.Core.Option.{Option, none, some, Option·none-ne-some, Option·some-injective}
 use mathlib.Core.List.{[], _∷_}
 use Prim.Native.Nat.{ℕ, _+_, _-_, _%_, _≤_, _<_}
 use native.Mathlib.Omega.{arith}
@@ -157,18 +157,12 @@ module _ (l c : ℕ) where
 
 -- ---- composites and the one step: each is the inverse of the other
 
-none-not-some : {p : ℕ} → none ≡ some p → ⊥
-none-not-some {p} e = let z : _≡_ {A = ℕ} 0 1 = cc in omega arith
-
-some-same : {p q : ℕ} → some p ≡ some q → p ≡ q
-some-same e = cc
-
 pub composite-step : (l c p : ℕ) → composite l c ≡ some p → oneStep p ≡ l ∷ c ∷ []
 composite-step l c p e = by (eqb (pair l c) 0) refl (sym (composite-pair l c) ∙ e)
   where
     by : (b : Bool) → eqb (pair l c) 0 ≡ b → cond b none (some (pair l c)) ≡ some p → oneStep p ≡ l ∷ c ∷ []
-    by true q f = absurd (none-not-some f)
-    by false q f = rw (← (some-same f)) (pair-step l c (eqb-false (pair l c) 0 q))
+    by true q f = absurd (Option·none-ne-some _ f)
+    by false q f = rw (← (Option·some-injective _ _ f)) (pair-step l c (eqb-false (pair l c) 0 q))
 
 pub step-composite : (l c p : ℕ) → oneStep p ≡ l ∷ c ∷ [] → composite l c ≡ some p
 step-composite l c p e =

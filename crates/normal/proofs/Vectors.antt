@@ -43,7 +43,7 @@ pub record HangulForms : Type 0 where
   pub last-initial : HasForms jamo (0x1100 ∷ 0x1100 ∷ 0x1161 ∷ []) (0x1100 ∷ 0x1100 ∷ 0x1161 ∷ []) (0x1100 ∷ 0xAC00 ∷ [])
   -- three letters, and two after another character
   pub letters : HasForms jamo (0x1100 ∷ 0x1161 ∷ 0x11A8 ∷ []) (0x1100 ∷ 0x1161 ∷ 0x11A8 ∷ []) (0xAC01 ∷ [])
-  pub behind-ascii : HasForms jamo (0x0041 ∷ 0x1100 ∷ 0x1161 ∷ []) (0x0041 ∷ 0x1100 ∷ 0x1161 ∷ []) (0x0041 ∷ 0xAC00 ∷ [])
+  pub after-ascii : HasForms jamo (0x0041 ∷ 0x1100 ∷ 0x1161 ∷ []) (0x0041 ∷ 0x1100 ∷ 0x1161 ∷ []) (0x0041 ∷ 0xAC00 ∷ [])
   -- an LV and a final
   pub lv-final : HasForms jamo (0xAC00 ∷ 0x11A8 ∷ []) (0x1100 ∷ 0x1161 ∷ 0x11A8 ∷ []) (0xAC01 ∷ [])
   -- a tone mark between two letters blocks the second from the first
@@ -69,7 +69,7 @@ hangul-forms = record {
   second-final-stays = (refl, refl);
   last-initial = (refl, refl);
   letters = (refl, refl);
-  behind-ascii = (refl, refl);
+  after-ascii = (refl, refl);
   lv-final = (refl, refl);
   tone-blocks-peak = (refl, refl);
   tone-blocks-final = (refl, refl);

@@ -28,7 +28,7 @@ pub record Database : Type 0 where
   pub depth : ℕ
   -- D113: the property Full_Composition_Exclusion
   pub excluded : ℕ → Bool
-  -- D117, R2: the primary composite to which <L, C> is canonically equivalent, where there is one
+  -- D117, R2: the primary composite to which <L, C> is canonically equivalent, if there is one
   -- (`Sound`, below)
   pub composite : ℕ → ℕ → Option ℕ
 
@@ -93,7 +93,7 @@ abbrev pub exists : (ℕ → Bool) → List ℕ → Bool
 exists f [] = false
 exists f (b ∷ x) = f b || exists f x
 
--- D115: B between A and C blocks C where ccc(B) = 0 or ccc(B) ≥ ccc(C); C is blocked from A where
+-- D115: B between A and C blocks C if ccc(B) = 0 or ccc(B) ≥ ccc(C); C is blocked from A if
 -- ccc(A) = 0 and some B between them blocks it
 abbrev pub blocks : Database → ℕ → ℕ → Bool
 blocks db c b = eqb (db .ccc b) 0 || leb (db .ccc c) (db .ccc b)
@@ -121,7 +121,7 @@ abbrev pub Found : Database → List ℕ → Sought → Type 0
 Found db x nowhere = exists (starter db) x ≡ false
 Found db x (last before l between) = (x ≡ before ++ l ∷ between) × (starter db l ≡ true) × (exists (starter db) between ≡ false)
 
--- D117, R2: where there is such an L from which C is not blocked, and <L, C> has a primary
+-- D117, R2: if there is such an L from which C is not blocked, and <L, C> has a primary
 -- composite P, there P stands for L, and C falls away; else C stays, after the sequence x before it
 abbrev pub withComposite : List ℕ → ℕ → List ℕ → List ℕ → Option ℕ → List ℕ
 withComposite x c before between (some p) = before ++ p ∷ between

@@ -1,7 +1,7 @@
 -- Laws of a label's items. In order: digits (`digit-yes`, `digit-below`, `digit-above`,
--- `digit-most`); a text by what stands in front (`run-other`, `behind-other`, `items-other`,
--- `run-digit`, `behind-digit`, `items-digit`, and where no digit does `run-ends`, `behind-ends`); a
--- whole run and then no digit (`run-whole`, `behind-whole`, `items-digits`); what digits write
+-- `digit-most`); a text by what stands in front (`run-other`, `after-other`, `items-other`,
+-- `run-digit`, `after-digit`, `items-digit`, and where no digit does `run-ends`, `after-ends`); a
+-- whole run and then no digit (`run-whole`, `after-whole`, `items-digits`); what digits write
 -- (`value-front`, `value-zero`, `value-less`, `value-least`, `value-more`, `zero-in-front`); and
 -- THE ITEMS ARE THE RIGHT ONES AND THE ONLY ONES (`items-itemised`, `itemised-only`).
 use mathlib.Core.Path.{_≡_, refl, sym, _∙_, ap}
@@ -14,7 +14,7 @@ use lib.ListN.{length, length-append}
 use Rattle.laws.specs.Lists.{All, none as no-more, also}
 use Rattle.laws.proofs.Bools.{test}
 use Rattle.laws.proofs.Ranges.{within-yes, within-below, within-above, within-most}
-use Rattle.ranking.specs.Items.{Item, number, character, isDigit, run, digitsValue, itemsBehind, items, Ends, Itemised, none, other, digits}
+use Rattle.ranking.specs.Items.{Item, number, character, isDigit, run, digitsValue, itemsAfter, items, Ends, Itemised, none, other, digits}
 
 -- ---- digits
 
@@ -41,9 +41,9 @@ pub run-none : run [] ≡ []
 unfolding run
 run-none = refl
 
-pub behind-none : (b : Bool) → itemsBehind b [] ≡ []
-unfolding itemsBehind
-behind-none b = refl
+pub after-none : (b : Bool) → itemsAfter b [] ≡ []
+unfolding itemsAfter
+after-none b = refl
 
 module _ (c : ℕ) (x : List ℕ) where
   module _ (not-digit : isDigit c ≡ false) where
@@ -51,24 +51,24 @@ module _ (c : ℕ) (x : List ℕ) where
     unfolding run
     run-other = rw not-digit
 
-    pub behind-other : (b : Bool) → itemsBehind b (c ∷ x) ≡ character c ∷ items x
-    unfolding itemsBehind
-    behind-other b = rw not-digit
+    pub after-other : (b : Bool) → itemsAfter b (c ∷ x) ≡ character c ∷ items x
+    unfolding itemsAfter
+    after-other b = rw not-digit
 
     pub items-other : items (c ∷ x) ≡ character c ∷ items x
-    items-other = behind-other false
+    items-other = after-other false
 
   module _ (digit : isDigit c ≡ true) where
     pub run-digit : run (c ∷ x) ≡ c ∷ run x
     unfolding run
     run-digit = rw digit
 
-    pub behind-digit : itemsBehind true (c ∷ x) ≡ itemsBehind true x
-    unfolding itemsBehind
-    behind-digit = rw digit
+    pub after-digit : itemsAfter true (c ∷ x) ≡ itemsAfter true x
+    unfolding itemsAfter
+    after-digit = rw digit
 
-    pub items-digit : items (c ∷ x) ≡ number (digitsValue (c ∷ run x)) ∷ itemsBehind true x
-    unfolding itemsBehind
+    pub items-digit : items (c ∷ x) ≡ number (digitsValue (c ∷ run x)) ∷ itemsAfter true x
+    unfolding itemsAfter
     items-digit = simp (digit, run-digit)
 
 -- where no digit stands in front, it is the same whether a digit stood before
@@ -76,9 +76,9 @@ pub run-ends : (x : List ℕ) → Ends x → run x ≡ []
 run-ends [] e = run-none
 run-ends (c ∷ x) e = run-other c x e
 
-pub behind-ends : (x : List ℕ) → Ends x → itemsBehind true x ≡ items x
-behind-ends [] e = behind-none true ∙ sym (behind-none false)
-behind-ends (c ∷ x) e = behind-other c x e true ∙ sym (items-other c x e)
+pub after-ends : (x : List ℕ) → Ends x → itemsAfter true x ≡ items x
+after-ends [] e = after-none true ∙ sym (after-none false)
+after-ends (c ∷ x) e = after-other c x e true ∙ sym (items-other c x e)
 
 -- ---- a whole run, and then no digit
 
@@ -87,12 +87,12 @@ module _ (x : List ℕ) (ends : Ends x) where
   run-whole no-more = run-ends x ends
   run-whole (also {a = d} {x = r} h p) = run-digit d (r ++ x) h ∙ ap (λ (l : List ℕ). d ∷ l) (run-whole p)
 
-  pub behind-whole : {r : List ℕ} → All (λ c. isDigit c ≡ true) r → itemsBehind true (r ++ x) ≡ items x
-  behind-whole no-more = behind-ends x ends
-  behind-whole (also {a = d} {x = r} h p) = behind-digit d (r ++ x) h ∙ behind-whole p
+  pub after-whole : {r : List ℕ} → All (λ c. isDigit c ≡ true) r → itemsAfter true (r ++ x) ≡ items x
+  after-whole no-more = after-ends x ends
+  after-whole (also {a = d} {x = r} h p) = after-digit d (r ++ x) h ∙ after-whole p
 
   pub items-digits : (d : ℕ) (r : List ℕ) → All (λ c. isDigit c ≡ true) (d ∷ r) → items (d ∷ r ++ x) ≡ number (digitsValue (d ∷ r)) ∷ items x
-  items-digits d r (also h p) = items-digit d (r ++ x) h ∙ rw (run-whole p, behind-whole p)
+  items-digits d r (also h p) = items-digit d (r ++ x) h ∙ rw (run-whole p, after-whole p)
 
 -- ---- what digits write
 
@@ -136,7 +136,7 @@ pub zero-in-front : (d : ℕ) (x : List ℕ) → isDigit d ≡ true → items (0
 zero-in-front d x h =
     let zero : isDigit 0x30 ≡ true = digit-yes 0x30 (omega arith) (omega arith) in
     items-digit 0x30 (d ∷ x) zero
-    ∙ rw (value-zero 0x30 (run (d ∷ x)) (omega arith), run-digit d x h, behind-digit d x h) (sym (items-digit d x h))
+    ∙ rw (value-zero 0x30 (run (d ∷ x)) (omega arith), run-digit d x h, after-digit d x h) (sym (items-digit d x h))
 
 -- ---- THE ITEMS
 
@@ -147,27 +147,27 @@ record Right (x : List ℕ) : Type 0 where
   stands : x ≡ run x ++ rest
   all-digits : All (λ c. isDigit c ≡ true) (run x)
   ends : Ends rest
-  behind : Itemised rest (itemsBehind true x)
+  after : Itemised rest (itemsAfter true x)
 
 all-right : (x : List ℕ) → Right x
 all-right [] = record {
-  right = rw (behind-none false) none;
+  right = rw (after-none false) none;
   rest = [];
   stands = rw run-none;
   all-digits = rw run-none no-more;
   ends = tt;
-  behind = rw (behind-none true) none;
+  after = rw (after-none true) none;
 }
 all-right (c ∷ x) =
     let more = all-right x in
     test (isDigit c)
     (λ h. record {
-      right = rw (items-digit c x h) (of-text (sym (more .stands)) (digits c (run x) (also h (more .all-digits)) (more .ends) (more .behind)));
+      right = rw (items-digit c x h) (of-text (sym (more .stands)) (digits c (run x) (also h (more .all-digits)) (more .ends) (more .after)));
       rest = more .rest;
       stands = rw (run-digit c x h) (ap (λ (l : List ℕ). c ∷ l) (more .stands));
       all-digits = rw (run-digit c x h) (also h (more .all-digits));
       ends = more .ends;
-      behind = rw (behind-digit c x h) (more .behind);
+      after = rw (after-digit c x h) (more .after);
     })
     (λ h. record {
       right = rw (items-other c x h) (other c h (more .right));
@@ -175,7 +175,7 @@ all-right (c ∷ x) =
       stands = rw (run-other c x h);
       all-digits = rw (run-other c x h) no-more;
       ends = h;
-      behind = rw (behind-other c x h true) (other c h (more .right));
+      after = rw (after-other c x h true) (other c h (more .right));
     })
   where
     of-text : {y z : List ℕ} {i : List Item} → y ≡ z → Itemised (c ∷ y) i → Itemised (c ∷ z) i
@@ -186,7 +186,7 @@ pub items-itemised : (x : List ℕ) → Itemised x (items x)
 items-itemised x = all-right x .right
 
 pub itemised-only : {x : List ℕ} {i : List Item} → Itemised x i → i ≡ items x
-itemised-only none = sym (behind-none false)
+itemised-only none = sym (after-none false)
 itemised-only (other c {x} {i} h p) = ap (λ (l : List Item). character c ∷ l) (itemised-only p) ∙ sym (items-other c x h)
 itemised-only (digits d r {x} {i} h e p) =
     ap (λ (l : List Item). number (digitsValue (d ∷ r)) ∷ l) (itemised-only p) ∙ sym (items-digits x e d r h)

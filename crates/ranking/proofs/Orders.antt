@@ -101,7 +101,8 @@ then-equal-next Before b e = absurd (before-not-equal e)
 then-equal-next Equal b e = e
 then-equal-next After b e = absurd (after-not-equal e)
 
--- ---- three things: p is where the first stands to the second, q the second to the third, r the first to the third
+-- ---- three things: p is where the first stands to the second, q the second to the third, r the
+-- first to the third
 
 abbrev pub Chain : Order → Order → Order → Type 0
 Chain Before Before r = r ≡ Before

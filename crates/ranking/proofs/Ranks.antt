@@ -27,7 +27,7 @@ use Rattle.ranking.specs.Ranking.{byValue, swapped, thenBy, rankItem, ra
 use Rattle.ranking.specs.declared.order.Order.{Order}
 use Rattle.ranking.specs.declared.order.Order.the-variants.{Before, Equal, After}
 use Rattle.ranking.proofs.Orders.{before-not-equal, before-not-after, after-not-equal, value-after, equal-value, by-value-self, by-value-swapped, then-equal, swapped-then, then-equal-first, then-equal-next, Chain, chain-value, chain-then, chain-most, chain-before, chain-before-any, chain-after-any, chain-any-before, chain-any-after, chain-equal-first, chain-equal-next}
-use Rattle.ranking.proofs.Items.{digit-yes, digit-most, behind-none, items-digits, value-none, value-front, zero-in-front}
+use Rattle.ranking.proofs.Items.{digit-yes, digit-most, after-none, items-digits, value-none, value-front, zero-in-front}
 
 -- ---- of items
 
@@ -169,7 +169,7 @@ rank-numbers d x e y p q =
     (then-equal (byValue (digitsValue (d ∷ x)) (digitsValue (e ∷ y))))
   where
     digits-alone : (d : ℕ) (x : List ℕ) → All (λ c. isDigit c ≡ true) (d ∷ x) → items (d ∷ x) ≡ number (digitsValue (d ∷ x)) ∷ []
-    digits-alone d x p = ap items (sym (append-nil (d ∷ x))) ∙ items-digits [] tt d x p ∙ rw (behind-none false)
+    digits-alone d x p = ap items (sym (append-nil (d ∷ x))) ∙ items-digits [] tt d x p ∙ rw (after-none false)
 
 -- zeros in front of a number count nothing
 pub leading-zero : (d : ℕ) (x : List ℕ) → isDigit d ≡ true → rank (0x30 ∷ d ∷ x) (d ∷ x) ≡ Equal

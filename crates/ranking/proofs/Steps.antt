@@ -1,9 +1,9 @@
 -- Laws of one step. In order: what stands in front, as a view of the text (`View`); numbers that
 -- are open: the longer one is the greater (`longer-less`), of two as long the first digits that
--- differ decide (`sum-value`, `number-digits`), zeros in front pass (`zero-value`, `zero-behind`),
+-- differ decide (`sum-value`, `number-digits`), zeros in front pass (`zero-value`, `zero-after`),
 -- and numbers that have ended (`number-ended`); what a step answers (`steps-done`, `steps-both`,
--- `steps-as`, `moves`, `moves-from`); then a section for each function of src/step that decides
--- something.
+-- `steps-as`, `moves`, `moves-from`); then a section for each function of src/compare that
+-- decides something.
 use mathlib.Core.Path.{_≡_, refl, sym, _∙_, ap}
 use mathlib.Core.Bool.{true, false, false≢true}
 use mathlib.Core.Logic.{inl, inr}
@@ -15,7 +15,7 @@ use lib.ListN.{length}
 use borrow.Author.Tests.{eq-eqb, ne-eqb, eqb-true, eqb-false}
 use Rattle.laws.specs.Lists.{All, none, also}
 use Rattle.laws.proofs.Bools.{test}
-use Rattle.ranking.specs.Items.{isDigit, run, digitsValue, itemsBehind, items}
+use Rattle.ranking.specs.Items.{isDigit, run, digitsValue, itemsAfter, items}
 use Rattle.ranking.specs.Ranking.{byValue, thenBy, rankItems}
 use Rattle.ranking.specs.Inner.{frontOf, textAfter, rankFrom, goesOnAs, isZeroAs, doneWith, bothWith, zeroWith, Closed, Steps}
 use Rattle.ranking.specs.declared.order.Order.{Order}
@@ -26,7 +26,7 @@ use Rattle.ranking.specs.declared.compare.State.{State}
 use Rattle.ranking.specs.declared.compare.State.the-variants.{Apart, Zeros, Number, Done}
 use Rattle.ranking.specs.declared.compare.Move.{Move}
 use Rattle.ranking.proofs.Orders.{value-before, value-equal, value-after, by-order, by-value-self, then-assoc, then-equal}
-use Rattle.ranking.proofs.Items.{run-none, behind-none, run-other, behind-other, items-other, run-digit, behind-digit, items-digit, value-front, value-zero, value-less, value-least}
+use Rattle.ranking.proofs.Items.{run-none, after-none, run-other, after-other, items-other, run-digit, after-digit, items-digit, value-front, value-zero, value-less, value-least}
 
 -- ---- what stands in front
 
@@ -111,13 +111,13 @@ open-digits o d e r q rest h k =
 number-digits : (o : Order) {a b : ℕ} {x y : List ℕ} → View x (Digit a) → View y (Digit b)
     → rankFrom (Number o) x y ≡ rankFrom (Number (thenBy o (byValue a b))) (textAfter x) (textAfter y)
 number-digits o (at-digit d x h) (at-digit e y k) =
-    rw (run-digit d x h, run-digit e y k, behind-digit d x h, behind-digit e y k)
-    (open-digits o d e (run x) (run y) (rankItems (itemsBehind true x) (itemsBehind true y)) (run-less x) (run-less y))
+    rw (run-digit d x h, run-digit e y k, after-digit d x h, after-digit e y k)
+    (open-digits o d e (run x) (run y) (rankItems (itemsAfter true x) (itemsAfter true y)) (run-less x) (run-less y))
 
 -- where two numbers begin, none of their digits has passed
 apart-zeros : {a b : ℕ} {x y : List ℕ} → View x (Digit a) → View y (Digit b) → rankFrom Apart x y ≡ rankFrom Zeros x y
 apart-zeros (at-digit d x h) (at-digit e y k) =
-    rw (items-digit d x h, items-digit e y k, run-digit d x h, run-digit e y k, behind-digit d x h, behind-digit e y k)
+    rw (items-digit d x h, items-digit e y k, run-digit d x h, run-digit e y k, after-digit d x h, after-digit e y k)
 
 -- a zero in front passes
 zero-value : {a : Front} {x : List ℕ} → View x a → isZeroAs a ≡ true → digitsValue (run x) ≡ digitsValue (run (textAfter x))
@@ -125,10 +125,10 @@ zero-value at-end z = absurd (false≢true z)
 zero-value (at-other c x h) z = absurd (false≢true z)
 zero-value (at-digit d x h) z = rw (run-digit d x h) (value-zero d (run x) (eqb-true (d - 0x30) 0 z))
 
-zero-behind : {a : Front} {x : List ℕ} → View x a → isZeroAs a ≡ true → itemsBehind true x ≡ itemsBehind true (textAfter x)
-zero-behind at-end z = absurd (false≢true z)
-zero-behind (at-other c x h) z = absurd (false≢true z)
-zero-behind (at-digit d x h) z = behind-digit d x h
+zero-after : {a : Front} {x : List ℕ} → View x a → isZeroAs a ≡ true → itemsAfter true x ≡ itemsAfter true (textAfter x)
+zero-after at-end z = absurd (false≢true z)
+zero-after (at-other c x h) z = absurd (false≢true z)
+zero-after (at-digit d x h) z = after-digit d x h
 
 -- numbers that have ended
 closed-run : {a : Front} {x : List ℕ} → View x a → Closed a → run x ≡ []
@@ -136,15 +136,15 @@ closed-run at-end s = run-none
 closed-run (at-digit d x h) s = absurd s
 closed-run (at-other c x h) s = run-other c x h
 
-closed-behind : {a : Front} {x : List ℕ} → View x a → Closed a → itemsBehind true x ≡ items x
-closed-behind at-end s = behind-none true ∙ sym (behind-none false)
-closed-behind (at-digit d x h) s = absurd s
-closed-behind (at-other c x h) s = behind-other c x h true ∙ sym (items-other c x h)
+closed-after : {a : Front} {x : List ℕ} → View x a → Closed a → itemsAfter true x ≡ items x
+closed-after at-end s = after-none true ∙ sym (after-none false)
+closed-after (at-digit d x h) s = absurd s
+closed-after (at-other c x h) s = after-other c x h true ∙ sym (items-other c x h)
 
 number-ended : (o : Order) {a b : Front} {x y : List ℕ} → View x a → View y b → Closed a → Closed b
     → rankFrom (Number o) x y ≡ thenBy o (rankFrom Apart x y)
 number-ended o v w s t =
-    rw (closed-run v s, closed-run w t, closed-behind v s, closed-behind w t, by-value-self 0, by-value-self (digitsValue []))
+    rw (closed-run v s, closed-run w t, closed-after v s, closed-after w t, by-value-self 0, by-value-self (digitsValue []))
 
 -- ---- what a step answers
 
@@ -194,10 +194,10 @@ module _ (a b : ℕ) {o : Order} (compared : o ≡ byValue a b) {r : Move} where
 -- ---- zeros: of both numbers only zeros have passed
 
 first-zero-rank : {a : Front} {x : List ℕ} (y : List ℕ) → View x a → isZeroAs a ≡ true → rankFrom Zeros x y ≡ rankFrom Zeros (textAfter x) y
-first-zero-rank y v z = rw (zero-value v z, zero-behind v z)
+first-zero-rank y v z = rw (zero-value v z, zero-after v z)
 
 second-zero-rank : {b : Front} (x : List ℕ) {y : List ℕ} → View y b → isZeroAs b ≡ true → rankFrom Zeros x y ≡ rankFrom Zeros x (textAfter y)
-second-zero-rank x w z = rw (zero-value w z, zero-behind w z)
+second-zero-rank x w z = rw (zero-value w z, zero-after w z)
 
 zero-not-end : (a : Front) → isZeroAs a ≡ true → a ≡ End → ⊥
 zero-not-end a z e = false≢true (sym (ap isZeroAs e) ∙ z)
@@ -241,22 +241,22 @@ module _ (a b : ℕ) {r : Move} where
 -- ---- apart: two items begin
 
 ends-rank : {x y : List ℕ} → View x End → View y End → rankFrom Apart x y ≡ Equal
-ends-rank at-end at-end = rw (behind-none false)
+ends-rank at-end at-end = rw (after-none false)
 
 end-digit-rank : {b : ℕ} {x y : List ℕ} → View x End → View y (Digit b) → rankFrom Apart x y ≡ Before
-end-digit-rank at-end (at-digit e y k) = rw (behind-none false, items-digit e y k)
+end-digit-rank at-end (at-digit e y k) = rw (after-none false, items-digit e y k)
 
 end-other-rank : {b : ℕ} {x y : List ℕ} → View x End → View y (Other b) → rankFrom Apart x y ≡ Before
-end-other-rank at-end (at-other e y k) = rw (behind-none false, items-other e y k)
+end-other-rank at-end (at-other e y k) = rw (after-none false, items-other e y k)
 
 digit-end-rank : {a : ℕ} {x y : List ℕ} → View x (Digit a) → View y End → rankFrom Apart x y ≡ After
-digit-end-rank (at-digit d x h) at-end = rw (behind-none false, items-digit d x h)
+digit-end-rank (at-digit d x h) at-end = rw (after-none false, items-digit d x h)
 
 digit-other-rank : {a b : ℕ} {x y : List ℕ} → View x (Digit a) → View y (Other b) → rankFrom Apart x y ≡ Before
 digit-other-rank (at-digit d x h) (at-other e y k) = rw (items-digit d x h, items-other e y k)
 
 other-end-rank : {a : ℕ} {x y : List ℕ} → View x (Other a) → View y End → rankFrom Apart x y ≡ After
-other-end-rank (at-other d x h) at-end = rw (behind-none false, items-other d x h)
+other-end-rank (at-other d x h) at-end = rw (after-none false, items-other d x h)
 
 other-digit-rank : {a b : ℕ} {x y : List ℕ} → View x (Other a) → View y (Digit b) → rankFrom Apart x y ≡ After
 other-digit-rank (at-other d x h) (at-digit e y k) = rw (items-other d x h, items-digit e y k)
@@ -319,10 +319,10 @@ done-stays o a b e = rw e (steps-done o (λ x y v w. refl))
 -- ---- settled
 
 pub settled-apart : Equal ≡ rankFrom Apart [] []
-settled-apart = rw (behind-none false)
+settled-apart = rw (after-none false)
 
 pub settled-zeros : Equal ≡ rankFrom Zeros [] []
-settled-zeros = rw (run-none, behind-none true, by-value-self (digitsValue []))
+settled-zeros = rw (run-none, after-none true, by-value-self (digitsValue []))
 
 pub settled-number : (o : Order) → o ≡ rankFrom (Number o) [] []
-settled-number o = rw (run-none, behind-none true, by-value-self 0, by-value-self (digitsValue [])) (sym (then-equal o))
+settled-number o = rw (run-none, after-none true, by-value-self 0, by-value-self (digitsValue [])) (sym (then-equal o))

@@ -9,16 +9,16 @@ use mathlib.Core.Path.{_≡_, refl, sym, _∙_, ap}
 use mathlib.Core.Bool.{Bool, true, false, cond, not, false≢true}
 use mathlib.Core.Logic.{_⊎_, inl, inr}
 use mathlib.Core.List.{List, [], _∷_, _++_, append-assoc}
-use Prim.Native.Nat.{ℕ, suc, _+_, _-_, _≤_, _<_}
+use Prim.Native.Nat.{ℕ, _+_, _-_, _≤_, _<_}
 use native.Mathlib.Nat.{add-zero}
 use native.Mathlib.Omega.{arith}
 use lib.Dec.{ltb, eqb}
 use lib.ListN.{length, getD, drop, drop-of-length-le}
-use lib.Seq.{drop-cons, getD-drop}
+use lib.Seq.{getD-drop}
 use borrow.Author.Tests.{ne-eqb, lt-ltb, le-ltb, ltb-true, ltb-false}
 use Rattle.laws.specs.Lists.{All, none, also}
 use Rattle.laws.proofs.Bools.{test, and-left, and-right}
-use Rattle.laws.proofs.Lists.{all-append}
+use Rattle.laws.proofs.Lists.{at-index, at-index-to, all-append}
 use Rattle.joining.specs.Roles.{pair}
 use Rattle.joining.specs.Joining.{join}
 use Rattle.joining.proofs.Roles.{role-between}
@@ -73,14 +73,14 @@ module _ (from : List ℕ → ℕ → List ℕ) (text : List ℕ) (at : ℕ) whe
   pub begins-end : (code : ℕ) → from text at ≡ [] → at ≤ length text → NextBegins from text at (nextOf code 0)
   unfolding nextOf
   begins-end code e h =
-      record { front = rw e; behind-it = rw (add-zero at, e); inside = omega arith; more = λ n. absurd (n refl) }
+      record { front = rw e; after-it = rw (add-zero at, e); inside = omega arith; more = λ n. absurd (n refl) }
 
   pub begins-front : (code size : ℕ) → from text at ≡ code ∷ from text (at + size) → 1 ≤ size → at + size ≤ length text
       → NextBegins from text at (nextOf code size)
   unfolding nextOf
   begins-front code size e m h =
       let n : eqb size 0 ≡ false = ne-eqb size 0 (λ z. omega arith) in
-      record { front = rw (n, e); behind-it = sym (ap textAfter e); inside = h; more = λ q. m }
+      record { front = rw (n, e); after-it = sym (ap textAfter e); inside = h; more = λ q. m }
 
 pub begins-as : {from : List ℕ → ℕ → List ℕ} {text : List ℕ} {at : ℕ} {r s : Next} → r ≡ s → NextBegins from text at s → NextBegins from text at r
 begins-as e b = rw e b
@@ -96,9 +96,6 @@ join-more a [] n = absurd (n (apart-end a))
 join-more a (b ∷ x) n = join-joined a b x n
 
 module _ (text : List ℕ) where
-  at-index : (at to : ℕ) → to ≡ suc at → at < length text → drop at text ≡ getD text at 0 ∷ drop to text
-  at-index at to e h = rw e (drop-cons text at 0 h)
-
   front-code : (at : ℕ) → getD (drop at text) 0 0 ≡ getD text at 0
   front-code at = getD-drop at text 0 0 ∙ rw add-zero
 
@@ -123,7 +120,7 @@ module _ (text : List ℕ) (at : ℕ) where
     pub code-alone : two ≡ 0 → {r : Next} → r ≡ nextOf (getD text at 0) 1 → NextBegins joinedFrom text at r
     code-alone z e =
         begins-as e (begins-front joinedFrom text at (getD text at 0) 1
-        (ap join (at-index text at (at + 1) (omega arith) inside) ∙ join-alone (getD text at 0) (drop (at + 1) text) (sym first-pair ∙ z))
+        (ap join (at-index 0 text at inside) ∙ join-alone (getD text at 0) (drop (at + 1) text) (sym first-pair ∙ z))
         (omega arith) (omega arith))
 
     pub second-inside : (two ≡ 0 → ⊥) → at + 1 < length text
@@ -132,8 +129,8 @@ module _ (text : List ℕ) (at : ℕ) where
     two-front : (two ≡ 0 → ⊥) → join (drop at text) ≡ join (two ∷ drop (at + 2) text)
     two-front n =
         let next : drop (at + 1) text ≡ getD text (at + 1) 0 ∷ drop (at + 2) text =
-        at-index text (at + 1) (at + 2) (omega arith) (second-inside n) in
-        ap join (at-index text at (at + 1) (omega arith) inside) ∙ join-more (getD text at 0) (drop (at + 1) text) (λ z. n (first-pair ∙ z))
+        at-index-to 0 text (at + 1) (at + 2) (omega arith) (second-inside n) in
+        ap join (at-index 0 text at inside) ∙ join-more (getD text at 0) (drop (at + 1) text) (λ z. n (first-pair ∙ z))
         ∙ rw (← first-pair, next)
 
     -- and so do two and c
@@ -150,7 +147,7 @@ module _ (text : List ℕ) (at : ℕ) where
       code-three n e =
           let inside-three : at + 2 < length text = joins-inside text two (at + 2) (λ z. n (joined-three ∙ ap (pair two) third ∙ z)) in
           let next : drop (at + 2) text ≡ getD text (at + 2) 0 ∷ drop (at + 3) text =
-          at-index text (at + 2) (at + 3) (omega arith) inside-three in
+          at-index-to 0 text (at + 2) (at + 3) (omega arith) inside-three in
           let closed : (d : ℕ) → pair three d ≡ 0 =
           λ d. ap (λ (k : ℕ). pair k d) (joined-three ∙ ap (λ (k : ℕ). pair k c) joined) ∙ no-fourth (getD text at 0) b c d in
           begins-as e (begins-front joinedFrom text at three 3
@@ -182,7 +179,7 @@ byte-begins text at k e f =
 -- what is left where a front has passed, or has not
 passed-on : (from : List ℕ → ℕ → List ℕ) (text : List ℕ) (at : ℕ) {a : Next} → NextBegins from text at a → (b : Bool)
     → from text (at + cond b (a .size) 0) ≡ cond b (textAfter (from text at)) (from text at)
-passed-on from text at h true = h .behind-it
+passed-on from text at h true = h .after-it
 passed-on from text at h false = rw (add-zero at)
 
 passed-inside : (from : List ℕ → ℕ → List ℕ) (text : List ℕ) (at : ℕ) {a : Next} → NextBegins from text at a → (b : Bool)
@@ -342,7 +339,7 @@ low-front : (text : List ℕ) (at : ℕ) → at < length text → getD text at 0
 low-front text at h l =
     let a = getD text at 0 in
     let piece : pieces kindOf (drop at text) ≡ good (a ∷ []) ∷ pieces kindOf (drop (at + 1) text) =
-    ap (pieces kindOf) (at-index text at (at + 1) (omega arith) h)
+    ap (pieces kindOf) (at-index 0 text at h)
     ∙ full-piece encodes8 (a ∷ []) (drop (at + 1) text) (full-by table37 a (row-between table37 0x00 0x7F tt (omega arith) (omega arith)) ends) in
     let alone : goodOf a 1 ≡ characterFrom (pieces kindOf (drop at text)) =
     sym (ap characterFrom piece ∙ grown-stops form8 (goodOf a 1) (pieces kindOf (drop (at + 1) text))

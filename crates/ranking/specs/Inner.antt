@@ -13,7 +13,7 @@ use lib.ListN.{length, getD, drop}
 use Rattle.laws.specs.Lists.{All}
 use Rattle.joining.specs.Joining.{join}
 use Rattle.utf8.specs.Utf8.{readText}
-use Rattle.ranking.specs.Items.{isDigit, run, digitsValue, itemsBehind, items}
+use Rattle.ranking.specs.Items.{isDigit, run, digitsValue, itemsAfter, items}
 use Rattle.ranking.specs.Ranking.{byValue, thenBy, rankItems}
 use Rattle.ranking.specs.declared.order.Order.{Order}
 use Rattle.ranking.specs.declared.compare.Front.{Front}
@@ -45,16 +45,16 @@ nextOf code size = record { front = cond (eqb size 0) End (frontAs (isDigit code
 
 -- ---- what is known, and the rank of what is left
 
--- where a number is open, its digits that are left decide before what follows it; and once a digit
+-- if a number is open, its digits that are left decide before what follows it; and once a digit
 -- that is not zero has passed, the longer number is the greater, and of two as long the digits that
 -- have passed decide first
 abbrev pub rankFrom : State → List ℕ → List ℕ → Order
 rankFrom Apart x y = rankItems (items x) (items y)
-rankFrom Zeros x y = thenBy (byValue (digitsValue (run x)) (digitsValue (run y))) (rankItems (itemsBehind true x) (itemsBehind true y))
+rankFrom Zeros x y = thenBy (byValue (digitsValue (run x)) (digitsValue (run y))) (rankItems (itemsAfter true x) (itemsAfter true y))
 rankFrom (Number order) x y =
     thenBy (byValue (length (run x)) (length (run y)))
     (thenBy order
-    (thenBy (byValue (digitsValue (run x)) (digitsValue (run y))) (rankItems (itemsBehind true x) (itemsBehind true y))))
+    (thenBy (byValue (digitsValue (run x)) (digitsValue (run y))) (rankItems (itemsAfter true x) (itemsAfter true y))))
 rankFrom (Done order) x y = order
 
 abbrev pub goesOnAs : State → Bool
@@ -113,7 +113,7 @@ mendedFrom text at = join (readText (drop at text))
 -- a character begins at an index, or the text ends there
 pub record NextBegins (from : List ℕ → ℕ → List ℕ) (text : List ℕ) (at : ℕ) (r : Next) : Type 0 where
   pub front : r .front ≡ frontOf (from text at)
-  pub behind-it : from text (at + r .size) ≡ textAfter (from text at)
+  pub after-it : from text (at + r .size) ≡ textAfter (from text at)
   pub inside : at + r .size ≤ length text
   pub more : (r .front ≡ End → ⊥) → 1 ≤ r .size
 

@@ -28,16 +28,16 @@ digitsValue [] = 0
 digitsValue (d ∷ x) = (d - 0x30) * 10 ^ length x + digitsValue x
 
 -- the items of a text, after a digit or not: after a digit a digit is in its number already
-unfoldable pub itemsBehind : Bool → List ℕ → List Item
-itemsBehind digit [] = []
-itemsBehind digit (c ∷ x) =
+unfoldable pub itemsAfter : Bool → List ℕ → List Item
+itemsAfter digit [] = []
+itemsAfter digit (c ∷ x) =
     cond (isDigit c)
-    (cond digit (itemsBehind true x) (number (digitsValue (run (c ∷ x))) ∷ itemsBehind true x))
-    (character c ∷ itemsBehind false x)
+    (cond digit (itemsAfter true x) (number (digitsValue (run (c ∷ x))) ∷ itemsAfter true x))
+    (character c ∷ itemsAfter false x)
 
 -- THE ITEMS
 abbrev pub items : List ℕ → List Item
-items text = itemsBehind false text
+items text = itemsAfter false text
 
 -- ---- what has to be true of them
 

@@ -61,4 +61,4 @@ module _ {whole : List ℕ} {at : ℕ} {out₀ out : List ℕ} {rest next : ℕ}
   backing-all e h =
       let j : next ≡ at = omega (arith, b .place, ap length (decimal-one rest h)) in
       let d : decimalDigit rest ∷ b .done ≡ whole = rw (decimal-one rest h) at (b .all) in
-      record { behind = e; holds = stored (decimalDigit rest) ∙ ap (λ (x : List ℕ). sets out₀ next x) d ∙ ap (λ (i : ℕ). sets out₀ i whole) j }
+      record { after = e; holds = stored (decimalDigit rest) ∙ ap (λ (x : List ℕ). sets out₀ next x) d ∙ ap (λ (i : ℕ). sets out₀ i whole) j }

@@ -28,7 +28,8 @@ use Rattle.sorting.proofs.Standing.{standing-strict}
 use Rattle.sorting.proofs.Sorted.{ordered-next, ordered-none, ordered-length, ordered-sorted, order-length}
 use Rattle.sorting.proofs.Placing.{place-found}
 
--- ---- what the loop has made: the first n are in their places, and the rest of the buffer is as it was
+-- ---- what the loop has made: the first n are in their places, and the rest of the buffer is as it
+-- was
 
 module _ (image out₀ : List ℕ) where
   pub ordered-begin : out₀ ≡ front (sortedBy (standing image) 0) out₀
@@ -49,8 +50,8 @@ module _ (image out₀ : List ℕ) where
       sorted = rw first-made (ordered-sorted (standing image) (standing-strict image) n);
     }
 
-    behind-made : drop (suc n) out ≡ drop (suc n) out₀
-    behind-made =
+    after-made : drop (suc n) out ≡ drop (suc n) out₀
+    after-made =
         let size : length (sortedBy (standing image) n) ≡ n = ordered-length (standing image) n in
         let one : suc n ≡ length (sortedBy (standing image) n) + 1 = omega arith in
         rw (one, made) (drop-append-add (sortedBy (standing image) n) (drop (length (sortedBy (standing image) n)) out₀) 1
@@ -64,7 +65,7 @@ module _ (image out₀ : List ℕ) where
         let next : sortedBy (standing image) (suc n) ≡ take at out ++ (n ∷ take (n - at) (drop at out)) =
         ordered-next (standing image) n ∙ rw first-made at (place-found inside p) in
         rw (add-one, ordered-length (standing image) (suc n), next)
-        (i .holds ∙ rw (append-assoc, behind-made))
+        (i .holds ∙ rw (append-assoc, after-made))
 
 -- all of them
 pub ordered-end : (image out₀ : List ℕ) {n : ℕ} {out : List ℕ} → out ≡ front (sortedBy (standing image) n) out₀ → n ≡ countOf image

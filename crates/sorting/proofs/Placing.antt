@@ -1,6 +1,6 @@
 -- Where a record is put.
 --
--- In order: a number whose place is known (`placed-at`), WHAT THE SEARCH FINDS IS THE PLACE
+-- It has: a number whose place is known (`placed-at`), WHAT THE SEARCH FINDS IS THE PLACE
 -- (`place-found`); the search by halves, from its beginning (`between-all`) by either half
 -- (`halved-right`, `halved-left`) to its end (`between-none`); moving up the numbers from the place
 -- on: the loop's invariant (`Moving`), its beginning (`moving-begin`), its turn (`moving-next`),
@@ -22,7 +22,7 @@ use Rattle.sorting.specs.Sorting.{standing, isBefore, placed}
 use Rattle.sorting.specs.Inner.{Between, Searchable, Halved, PlaceFound, Inserted}
 use Rattle.sorting.specs.declared.records.Span.{Span}
 use Rattle.sorting.proofs.Standing.{standing-before, standing-strict, is-before, is-not-before}
-use Rattle.sorting.proofs.Sorted.{placed-none, placed-behind, placed-here, sorted-at}
+use Rattle.sorting.proofs.Sorted.{placed-none, placed-after, placed-here, sorted-at}
 
 -- ---- the place
 
@@ -33,7 +33,7 @@ placed-at stands k [] zero h below above = placed-none stands k
 placed-at stands k [] (suc at) h below above = absurd (omega arith)
 placed-at stands k (j ∷ x) zero h below above = placed-here stands k j x (above 0 (omega arith) (omega arith))
 placed-at stands k (j ∷ x) (suc at) h below above =
-    placed-behind stands k j x (below 0 (omega arith))
+    placed-after stands k j x (below 0 (omega arith))
     ∙ ap (λ (l : List ℕ). j ∷ l)
     (placed-at stands k x at (omega arith) (λ i q. below (suc i) (omega arith)) (λ i p q. above (suc i) (omega arith) (omega arith)))
 

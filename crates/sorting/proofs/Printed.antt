@@ -1,6 +1,6 @@
 -- All lines together, and what printing promises, from its contract.
 --
--- In order: a list with one of its numbers left out (`Out`); a list of n numbers that has every
+-- It has: a list with one of its numbers left out (`Out`); a list of n numbers that has every
 -- number below n has each once, so its lines are together as long as those of the numbers from 0 on
 -- (`counted-size`); HOW LONG THE LINES ARE AT MOST (`printed-most`, `image-printed-most`), and that
 -- 682 records need just that many bytes (`printed-full`); what the answer of `order` says

@@ -2,7 +2,7 @@
 -- ONLY ONE.
 --
 -- In order: members (`member-length`, `member-cases`, `all-member`); one number put in its place,
--- by cases (`placed-none`, `placed-behind`, `placed-here`), and what that keeps (`placed-length`,
+-- by cases (`placed-none`, `placed-after`, `placed-here`), and what that keeps (`placed-length`,
 -- `placed-all`, `placed-member`, `placed-kept`, `placed-sorted`); the first n numbers put in their
 -- places one after the other (`ordered-next`, `ordered-none`, `ordered-length`, `ordered-inside`,
 -- `ordered-member`, `ordered-sorted`): that is right over any strict order (`ordered-right`), and
@@ -46,9 +46,9 @@ module _ (stands : ℕ → ℕ → Order) (k : ℕ) where
   unfolding placed
   placed-none = refl
 
-  pub placed-behind : (j : ℕ) (x : List ℕ) → stands j k ≡ Before → placed stands k (j ∷ x) ≡ j ∷ placed stands k x
+  pub placed-after : (j : ℕ) (x : List ℕ) → stands j k ≡ Before → placed stands k (j ∷ x) ≡ j ∷ placed stands k x
   unfolding placed
-  placed-behind j x e = rw e
+  placed-after j x e = rw e
 
   pub placed-here : (j : ℕ) (x : List ℕ) → (stands j k ≡ Before → ⊥) → placed stands k (j ∷ x) ≡ k ∷ j ∷ x
   unfolding placed
@@ -61,27 +61,27 @@ module _ (stands : ℕ → ℕ → Order) (k : ℕ) where
   pub placed-length : (x : List ℕ) → length (placed stands k x) ≡ suc (length x)
   placed-length [] = ap length placed-none
   placed-length (j ∷ x) =
-      either j (λ e. ap length (placed-behind j x e) ∙ ap suc (placed-length x)) (λ h. ap length (placed-here j x h))
+      either j (λ e. ap length (placed-after j x e) ∙ ap suc (placed-length x)) (λ h. ap length (placed-here j x h))
 
   pub placed-all : {P : ℕ → Type 0} → P k → {x : List ℕ} → All P x → All P (placed stands k x)
   placed-all p none = rw placed-none (also p none)
   placed-all p (also {a = j} {x = x} q r) =
-      either j (λ e. rw (placed-behind j x e) (also q (placed-all p r))) (λ h. rw (placed-here j x h) (also p (also q r)))
+      either j (λ e. rw (placed-after j x e) (also q (placed-all p r))) (λ h. rw (placed-here j x h) (also p (also q r)))
 
   pub placed-member : (x : List ℕ) → Member k (placed stands k x)
   placed-member [] = rw placed-none here
-  placed-member (j ∷ x) = either j (λ e. rw (placed-behind j x e) (there (placed-member x))) (λ h. rw (placed-here j x h) here)
+  placed-member (j ∷ x) = either j (λ e. rw (placed-after j x e) (there (placed-member x))) (λ h. rw (placed-here j x h) here)
 
   pub placed-kept : {i : ℕ} {x : List ℕ} → Member i x → Member i (placed stands k x)
-  placed-kept {i} (here {x = x}) = either i (λ e. rw (placed-behind i x e) here) (λ h. rw (placed-here i x h) (there here))
+  placed-kept {i} (here {x = x}) = either i (λ e. rw (placed-after i x e) here) (λ h. rw (placed-here i x h) (there here))
   placed-kept (there {j = j} {x = x} m) =
-      either j (λ e. rw (placed-behind j x e) (there (placed-kept m))) (λ h. rw (placed-here j x h) (there (there m)))
+      either j (λ e. rw (placed-after j x e) (there (placed-kept m))) (λ h. rw (placed-here j x h) (there (there m)))
 
   -- the list stays sorted, if it does not have that number
   pub placed-sorted : Strict stands → {x : List ℕ} → Sorted stands x → All (λ j. j ≡ k → ⊥) x → Sorted stands (placed stands k x)
   placed-sorted strict sorting.none none = rw placed-none (sorting.also none sorting.none)
   placed-sorted strict (sorting.also {k = j} {x = x} first rest) (also differs others) =
-      either j (λ e. rw (placed-behind j x e) (sorting.also (placed-all e first) (placed-sorted strict rest others)))
+      either j (λ e. rw (placed-after j x e) (sorting.also (placed-all e first) (placed-sorted strict rest others)))
       (λ h.
       let front = else-before strict j k h differs in
       rw (placed-here j x h)

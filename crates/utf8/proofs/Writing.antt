@@ -1,7 +1,7 @@
 -- Laws of writing UTF-8: a code point's bytes in their four cases, how many they are, and the laws
 -- of a text's bytes that the loops ask.
 --
--- In order: `bytesOf` by the bounds of the code point (`bytes-one` .. `bytes-four`); its length
+-- It has: `bytesOf` by the bounds of the code point (`bytes-one` .. `bytes-four`); its length
 -- (`long-one` .. `long-four`, `bytes-least`, `bytes-most`), by a view of the four cases (`Width`);
 -- those of U+FFFD (`mark-bytes`); a text's bytes (`write-most`, `write-least`); at a loop's index
 -- (`taken-most`).

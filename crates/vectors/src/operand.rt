@@ -18,7 +18,7 @@ pub(crate) const NO_CODE: u32 = 0x100_0000;
 // A number, and the index after its digits.
 struct Number {
     value: u32,
-    behind: usize,
+    after: usize,
 }
 
 // The digit that a byte stands for: capital letters alone, as in every answer.
@@ -68,28 +68,28 @@ pub(crate) fn are_texts(operands: &[u8]) -> bool {
 
 // The number that begins at `from`; with no digit there it ends where it begins.
 fn number_at(field: &[u8], from: usize) -> Number
-    ensures { λ r. ⌜ from ≤ r .behind ⌝ }
+    ensures { λ r. ⌜ from ≤ r .after ⌝ }
 {
     let mut value: u32 = 0;
     let mut at = from;
     while at < field.len() {
         let digit = digit_of(field[at]);
         if digit == NONE {
-            return Number { value, behind: at };
+            return Number { value, after: at };
         }
         if LARGE <= value {
-            return Number { value, behind: at };
+            return Number { value, after: at };
         }
         value = 16 * value + digit;
         at += 1;
     }
-    Number { value, behind: at }
+    Number { value, after: at }
 }
 
 // A field that is one code, of four to six digits.
 pub(crate) fn code(field: &[u8]) -> u32 {
     let number = number_at(field, 0);
-    if number.behind < field.len() {
+    if number.after < field.len() {
         return NO_CODE;
     }
     if field.len() < 4 || 6 < field.len() {
@@ -106,13 +106,13 @@ pub(crate) fn codes(text: &[u8], out: &mut [u32]) -> usize
     let mut count = 0;
     while count < out.len() {
         let number = number_at(text, at);
-        let behind = number.behind;
+        let after = number.after;
         out[count] = number.value;
         count += 1;
-        if text.len() <= behind {
+        if text.len() <= after {
             return count;
         }
-        at = behind + 1;
+        at = after + 1;
     }
     0
 }
@@ -125,13 +125,13 @@ fn read_bytes(field: &[u8], out: &mut [u8]) -> usize
     let mut count = 0;
     while count < out.len() {
         let number = number_at(field, at);
-        let behind = number.behind;
+        let after = number.after;
         out[count] = (number.value % 0x100) as u8;
         count += 1;
-        if field.len() <= behind {
+        if field.len() <= after {
             return count;
         }
-        at = behind + 1;
+        at = after + 1;
     }
     0
 }

@@ -1,5 +1,6 @@
-// The words of a vector, and the answer of a line. A new word gets a line in `word_of` and an arm
-// in `call`; one that makes a text of a text gets only a case and an arm in texts.
+// The words of a vector, and the answer of a line. A new word gets a case of `Word`, a line in
+// `word_of` and an arm in `call`; one that makes a text of a text gets a line in `word_of`, and a
+// case and an arm in texts.
 use crate::operand;
 use crate::put;
 use crate::single;

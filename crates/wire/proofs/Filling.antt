@@ -3,10 +3,9 @@
 use mathlib.Core.Path.{_≡_, refl, _∙_}
 use mathlib.Core.List.{List, append-nil}
 use Prim.Native.Nat.{ℕ, _+_, _≤_, _<_}
-use native.Mathlib.Numerals.{add-one}
 use native.Mathlib.Omega.{arith}
 use lib.ListN.{length, getD, drop, set, length-set, drop-of-length-le}
-use lib.Seq.{drop-cons}
+use Rattle.laws.proofs.Lists.{at-index}
 use Rattle.laws.proofs.Filling.{Filling, filling-none, filling-more, filling-all, wrote-one}
 
 pub record Overwriting {A : Type 0} (whole out₀ out : List A) (i : ℕ) : Type 0 where
@@ -27,7 +26,7 @@ module _ {A : Type 0} where
       record {
         same = length-set out i x ∙ f .same;
         size = f .size;
-        filling = filling-more (omega (arith, f .size)) (f .filling) (record { eq = rw (add-one, at) (drop-cons whole i d before) }) (wrote-one {x = x} refl);
+        filling = filling-more (omega (arith, f .size)) (f .filling) (record { eq = rw at (at-index d whole i before) }) (wrote-one {x = x} refl);
       }
 
   pub overwriting-all : {whole out₀ out : List A} {i : ℕ} → Overwriting whole out₀ out i → length out ≤ i → out ≡ whole

@@ -6,10 +6,10 @@ use Prim.Native.Nat.{ℕ, zero, suc, _+_, _*_, _/_, _%_, _≤_, _<_}
 use native.Mathlib.Nat.{zero-add}
 use native.Mathlib.Omega.{arith}
 use lib.ListN.{length, getD, drop, set, length-append, length-drop}
-use lib.Seq.{sets, sets-eq, drop-cons, drop-drop}
+use lib.Seq.{sets, sets-eq, drop-drop}
 use Rattle.laws.specs.Lists.{each}
 use Rattle.laws.specs.Writing.{front, fitted}
-use Rattle.laws.proofs.Lists.{each-nil, each-cons}
+use Rattle.laws.proofs.Lists.{four-at, each-nil, each-cons}
 use Rattle.laws.proofs.Filling.{Piece, Filling, filling-room, filling-more, filling-all, wrote-all, wrote-four, wrote-fitted, wrote-unfitted}
 use Rattle.wire.specs.Numbers.{lowFirst, firstNumber, numberAt, numbersOf}
 
@@ -25,19 +25,7 @@ first-none (a ∷ b ∷ c ∷ d ∷ rest) h = absurd (omega arith)
 first-some : (bytes : List ℕ) (at : ℕ) → at + 3 < length bytes
     → firstNumber (drop at bytes)
     ≡ getD bytes at 0 + 0x100 * getD bytes (at + 1) 0 + 0x10000 * (getD bytes (at + 2) 0 + 0x100 * getD bytes (at + 3) 0)
-first-some bytes at h =
-    let one : at + 1 ≡ suc at = omega arith in
-    let two : at + 2 ≡ suc (suc at) = omega arith in
-    let three : at + 3 ≡ suc (suc (suc at)) = omega arith in
-    rw (
-      one,
-      two,
-      three,
-      drop-cons bytes at 0 (omega arith),
-      drop-cons bytes (suc at) 0 (omega arith),
-      drop-cons bytes (suc (suc at)) 0 (omega arith),
-      drop-cons bytes (suc (suc (suc at))) 0 (omega arith),
-    )
+first-some bytes at h = rw (four-at 0 bytes at (omega arith))
 
 pub number-none : (bytes : List ℕ) (index : ℕ) → length bytes / 4 ≤ index → numberAt bytes index ≡ 0
 unfolding numberAt
@@ -95,11 +83,11 @@ module _ {whole out₀ : List ℕ} (h : length whole ≤ length out₀) where
   pub put-next : (value : ℕ) {left rest out out′ : List ℕ} {k k′ : ℕ} → Filling whole left out₀ out k → Piece left (lowFirst value) rest
       → out′ ≡ sets out k (fitted (lowFirst value) out k) → k′ ≡ k + 4 → Filling whole rest out₀ out′ k′
   put-next value f p e n = filling-more h f p (record {
-    behind = omega (arith, ap length (low-first value));
-    holds = (wrote-all (filling-room h f p) (record { behind = refl; holds = e })) .holds;
+    after = omega (arith, ap length (low-first value));
+    holds = (wrote-all (filling-room h f p) (record { after = refl; holds = e })) .holds;
   })
 
   pub put-end : {rest out : List ℕ} {k : ℕ} → Filling whole rest out₀ out k → rest ≡ [] → out ≡ sets out₀ 0 (fitted whole out₀ 0)
   put-end f e =
       let front-sets : sets out₀ 0 whole ≡ front whole out₀ = simp zero-add at (sets-eq whole out₀ 0 (omega arith)) in
-      (wrote-fitted {all = whole} {out = out₀} {at = 0} refl (omega arith) (record { behind = refl; holds = (filling-all f e) .holds ∙ sym front-sets })) .holds
+      (wrote-fitted {all = whole} {out = out₀} {at = 0} refl (omega arith) (record { after = refl; holds = (filling-all f e) .holds ∙ sym front-sets })) .holds

@@ -9,7 +9,7 @@ use Rattle.laws.specs.Writing.{fitted}
 use Rattle.laws.proofs.Lists.{each-nil, each-cons}
 use Rattle.laws.proofs.Filling.{filling-none, wrote-unfitted}
 use Rattle.wire.specs.Numbers.{lowFirst, numberAt}
-use Rattle.wire.specs.Messages.{headOf, short, refusedWith, replyBytes}
+use Rattle.wire.specs.Messages.{headOf, short, refusedReply, replyBytes}
 use Rattle.wire.specs.declared.head.Head.{Head}
 use Rattle.wire.specs.declared.reply.Reply.{Reply}
 use Rattle.answers.specs.Answers.{told}
@@ -23,7 +23,7 @@ pub head-all : (bytes : List ℕ) {kind x y z w room first second : ℕ} → kin
 head-all bytes e₀ e₁ e₂ e₃ e₄ e₅ e₆ e₇ = rw (e₀, e₁, e₂, e₃, e₄, e₅, e₆, e₇) refl
 
 pub refused-all : (r : Refusal) (t : Told) {place : ℕ} → t ≡ told r → place ≡ short (t .place)
-    → _≡_ {A = Reply} (record { refusal = t .number; value = place; second = 0; third = 0 }) (refusedWith r)
+    → _≡_ {A = Reply} (record { refusal = t .number; value = place; second = 0; third = 0 }) (refusedReply r)
 refused-all r t e p = rw (p, e) refl
 
 module _ (r : Reply) where

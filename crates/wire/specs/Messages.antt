@@ -28,16 +28,16 @@ unfoldable pub short : ℕ → ℕ
 short n = n % 0x100000000
 
 -- the answer of a call that is done, and of one that is refused
-abbrev pub doneWith : ℕ → ℕ → ℕ → Reply
-doneWith value second third = record { refusal = 0; value = value; second = second; third = third }
+abbrev pub doneReply : ℕ → ℕ → ℕ → Reply
+doneReply value second third = record { refusal = 0; value = value; second = second; third = third }
 
-abbrev pub refusedWith : Refusal → Reply
-refusedWith r = record { refusal = told r .number; value = short (told r .place); second = 0; third = 0 }
+abbrev pub refusedReply : Refusal → Reply
+refusedReply r = record { refusal = told r .number; value = short (told r .place); second = 0; third = 0 }
 
 -- and of one that fills a buffer
-abbrev pub filledWith : Filled → Reply
-filledWith (Done size) = doneWith (short size) 0 0
-filledWith (Refused r) = refusedWith r
+abbrev pub filledReply : Filled → Reply
+filledReply (Done size) = doneReply (short size) 0 0
+filledReply (Refused r) = refusedReply r
 
 -- the four numbers of an answer as bytes
 unfoldable pub replyBytes : Reply → List ℕ

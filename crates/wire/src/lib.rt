@@ -1,6 +1,6 @@
-// wire: the wire form of the test programs (docs/CALLS.md). Numbers of 32 bits, low byte first; the
-// eight numbers of a call and the four of an answer; and the fill of a lent buffer. Every function
-// takes every input.
+// wire: the wire form of the test program `calls` (docs/CALLS.md). Numbers of 32 bits, low byte
+// first; the eight numbers of a call and the four of an answer; and the fill of a lent buffer.
+// Every function takes every input.
 mod head;
 mod lent;
 mod numbers;

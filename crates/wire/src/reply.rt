@@ -5,7 +5,7 @@ use answers::Refusal;
 ghost use mathlib.Core.Path.{_≡_};
 ghost use lib.Seq.{sets};
 ghost use Rattle.laws.specs.Writing.{fitted};
-ghost use Rattle.wire.specs.Messages.{short, doneWith, refusedWith, filledWith, replyBytes};
+ghost use Rattle.wire.specs.Messages.{short, doneReply, refusedReply, filledReply, replyBytes};
 
 pub struct Reply {
     pub refusal: u32,
@@ -22,7 +22,7 @@ fn shortened(n: usize) -> u32
 }
 
 pub fn done(value: u32, second: u32, third: u32) -> Reply
-    ensures { λ r. ⌜ r ≡ doneWith value second third ⌝ }
+    ensures { λ r. ⌜ r ≡ doneReply value second third ⌝ }
 {
     Reply {
         refusal: 0,
@@ -32,15 +32,15 @@ pub fn done(value: u32, second: u32, third: u32) -> Reply
     }
 }
 
-// The answer of a call that is done, where what it answers are lengths.
+// The answer of a call that is done, if what it answers are lengths.
 pub fn counted(value: usize, second: usize) -> Reply
-    ensures { λ r. ⌜ r ≡ doneWith (short value) (short second) 0 ⌝ }
+    ensures { λ r. ⌜ r ≡ doneReply (short value) (short second) 0 ⌝ }
 {
     done(shortened(value), shortened(second), 0)
 }
 
 pub fn refused(refusal: Refusal) -> Reply
-    ensures { λ r. ⌜ r ≡ refusedWith refusal ⌝ }
+    ensures { λ r. ⌜ r ≡ refusedReply refusal ⌝ }
 {
     let told = answers::tell(refusal);
     Reply {
@@ -52,7 +52,7 @@ pub fn refused(refusal: Refusal) -> Reply
 }
 
 pub fn filled(answer: Filled) -> Reply
-    ensures { λ r. ⌜ r ≡ filledWith answer ⌝ }
+    ensures { λ r. ⌜ r ≡ filledReply answer ⌝ }
 {
     match answer {
         Filled::Done(length) => counted(length, 0),

@@ -1,4 +1,4 @@
--- `answers::lacking` meets its contract.
+-- `answers::answer::lacking` meets its contract.
 use Rattle.answers.proofs.Checks.{lacking-none, lacking-all}
 use native.Mathlib.Omega.{arith}
 use Rattle.answers.proofs.answer.lacking.Statement.{statement}

@@ -4,8 +4,8 @@ use mathlib.Core.Path.{_≡_, sym, _∙_}
 use Prim.Native.Nat.{_≤_, _-_, _+_}
 use lib.ListN.{length, drop}
 use borrow.Author.Needs.{needs}
-use Rattle.answers.specs.Checks.{firstBad}
-use Rattle.answers.proofs.Checks.{first-bad-next, first-bad-here, first-bad-end}
+use Rattle.answers.specs.Checks.{bad, firstBad}
+use Rattle.laws.proofs.Lists.{first-next, first-here, first-end}
 use Rattle.answers.proofs.check.first_bad.Statement.{statement}
 use Rattle.answers.proofs.check.first_bad.Tie as tie
 
@@ -29,7 +29,7 @@ is-bad-requires c κs = search needs
 
 returns : tie.Need-returns Inv-loop μ-loop
 returns c =
-    first-bad-here _ _ _ (c .before .before .before .loop-test .taken) (sym (c .before .is-bad .ensures) ∙ c .if1 .taken)
+    first-here bad 0 _ _ _ (c .before .before .before .loop-test .taken) (sym (c .before .is-bad .ensures) ∙ c .if1 .taken)
     (c .before .before .before .before .loop .inv .1)
 
 add-i : tie.Need-add-i Inv-loop μ-loop
@@ -41,12 +41,12 @@ loop-less c = search needs
 loop-again : tie.Need-loop-again Inv-loop μ-loop
 loop-again c = (
   search needs,
-  first-bad-next _ _ _ (c .before .before .before .loop-test .taken) (sym (c .before .is-bad .ensures) ∙ c .if1 .left)
+  first-next bad 0 _ _ _ (c .before .before .before .loop-test .taken) (sym (c .before .is-bad .ensures) ∙ c .if1 .left)
       (c .before .before .before .before .loop .inv .1),
 )
 
 returns-2 : tie.Need-returns-2 Inv-loop μ-loop
-returns-2 c = first-bad-end _ _ _ (c .loop-test .left) (c .before .loop .inv .1)
+returns-2 c = first-end bad 0 _ _ _ (c .loop-test .left) (c .before .loop .inv .1)
 
 pub first-bad-spec : {M : Type 1} → statement M
 first-bad-spec =

@@ -16,11 +16,11 @@ use Rattle.clusters.proofs.gathered.gathered_count.Statement.{statement
 use Rattle.clusters.proofs.gathered.gathered_count.Tie as tie
 
 abbrev Inv-loop : tie.InvT-loop
-Inv-loop text table scratch₀ writer₀ total₀ read₀ scratch writer total read =
-    (read ≤ length text) × (length scratch ≡ 14) × (writer .at ≡ 0) × Counting (gathered text) (from coded (stateOf writer) (drop read text)) total
+Inv-loop text table scratch₀ writer₀ total₀ i₀ scratch writer total i =
+    (i ≤ length text) × (length scratch ≡ 14) × (writer .at ≡ 0) × Counting (gathered text) (from coded (stateOf writer) (drop i text)) total
 
 abbrev μ-loop : tie.MeasureT-loop
-μ-loop text table scratch₀ writer₀ total₀ read₀ scratch writer total read = length text - read
+μ-loop text table scratch₀ writer₀ total₀ i₀ scratch writer total i = length text - i
 
 writer-at-requires : tie.Need-writer-at-requires Inv-loop μ-loop
 writer-at-requires c κs = search needs
@@ -54,8 +54,8 @@ add-total c =
       start .pre .0,
     )
 
-add-read : tie.Need-add-read Inv-loop μ-loop
-add-read c = search needs
+add-i : tie.Need-add-i Inv-loop μ-loop
+add-i c = search needs
 
 loop-less : tie.Need-loop-less Inv-loop μ-loop
 loop-less c = search needs
@@ -109,7 +109,7 @@ gathered-count-spec =
     slice-aggregate-put-gathered
     put-gathered-requires
     add-total
-    add-read
+    add-i
     loop-less
     loop-again
     slice-aggregate-put-rest

@@ -1,5 +1,5 @@
 -- `clusters::gathered::put_letters` meets its contract. The loop's invariant: of the letters those
--- before `read` are taken (`Going`).
+-- before `i` are taken (`Going`).
 use Rattle.clusters.proofs.Writing.{Going, going-begin, going-room, going-more, going-end, letters-next, letters-end}
 use Rattle.laws.proofs.Filling.{wrote-length}
 use lib.ListN.{length, take, drop}
@@ -9,11 +9,11 @@ use Rattle.clusters.proofs.gathered.put_letters.Statement.{statement}
 use Rattle.clusters.proofs.gathered.put_letters.Tie as tie
 
 abbrev Inv-loop : tie.InvT-loop
-Inv-loop letters count table out₀ writer₀ read₀ out writer read =
-    (read ≤ count) × Going writer₀ (take count letters) (drop read (take count letters)) out₀ writer out
+Inv-loop letters count table out₀ writer₀ i₀ out writer i =
+    (i ≤ count) × Going writer₀ (take count letters) (drop i (take count letters)) out₀ writer out
 
 abbrev μ-loop : tie.MeasureT-loop
-μ-loop letters count table out₀ writer₀ read₀ out writer read = count - read
+μ-loop letters count table out₀ writer₀ i₀ out writer i = count - i
 
 loop-holds : tie.Need-loop-holds Inv-loop μ-loop
 loop-holds c = (search needs, going-begin _ _ _)
@@ -29,8 +29,8 @@ put-letter-requires c κs =
     let start = c .before .before .before .before .before .before .before in
     (start .pre .1 .0, going-room (c .before .before .before .loop .inv .1) (letters-next _ _ _ (c .before .before .loop-test .taken) (start .pre .0)) (start .pre .1 .1))
 
-add-read : tie.Need-add-read Inv-loop μ-loop
-add-read c = search needs
+add-i : tie.Need-add-i Inv-loop μ-loop
+add-i c = search needs
 
 loop-less : tie.Need-loop-less Inv-loop μ-loop
 loop-less c = search needs
@@ -58,7 +58,7 @@ put-letters-spec =
     mul-put-letter
     shared-slice-read-put-letter
     put-letter-requires
-    add-read
+    add-i
     loop-less
     loop-again
     same-length

@@ -14,11 +14,11 @@ use Rattle.clusters.proofs.simple.simple_count.Statement.{statement}
 use Rattle.clusters.proofs.simple.simple_count.Tie as tie
 
 abbrev Inv-loop : tie.InvT-loop
-Inv-loop text table count₀ read₀ count read =
-    (read ≤ length text) × Counting (simple text) (each simpleOf (drop read text)) count
+Inv-loop text table count₀ i₀ count i =
+    (i ≤ length text) × Counting (simple text) (each simpleOf (drop i text)) count
 
 abbrev μ-loop : tie.MeasureT-loop
-μ-loop text table count₀ read₀ count read = length text - read
+μ-loop text table count₀ i₀ count i = length text - i
 
 loop-holds : tie.Need-loop-holds Inv-loop μ-loop
 loop-holds c = (search needs, counting-begin (sym (simple-each (c .before .before .args .text .now))))
@@ -42,8 +42,8 @@ add-count c =
       c .before .before .before .before .before .before .before .pre .0,
     )
 
-add-read : tie.Need-add-read Inv-loop μ-loop
-add-read c = search needs
+add-i : tie.Need-add-i Inv-loop μ-loop
+add-i c = search needs
 
 loop-less : tie.Need-loop-less Inv-loop μ-loop
 loop-less c = search needs
@@ -69,7 +69,7 @@ simple-count-spec =
     shared-slice-read-letters-of
     letters-of-requires
     add-count
-    add-read
+    add-i
     loop-less
     loop-again
     returns)

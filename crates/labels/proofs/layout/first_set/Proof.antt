@@ -2,8 +2,9 @@
 -- index on that is not zero is the one wanted.
 use Prim.Native.Nat.{_+_, _≤_, _-_}
 use lib.ListN.{length, drop}
-use Rattle.labels.specs.Records.{firstSet}
-use Rattle.labels.proofs.Places.{set-next, set-here, set-end}
+use Rattle.labels.specs.Records.{isSet, firstSet}
+use Rattle.laws.proofs.Lists.{first-next, first-here, first-end}
+use Rattle.labels.proofs.Places.{zero-unset, nonzero-set}
 use mathlib.Core.Path.{_≡_, refl}
 use borrow.Author.Needs.{needs}
 use Rattle.labels.proofs.layout.first_set.Statement.{statement}
@@ -22,7 +23,8 @@ shared-slice-read-if1 : tie.Need-shared-slice-read-if1 Inv-loop μ-loop
 shared-slice-read-if1 c = search needs
 
 returns : tie.Need-returns Inv-loop μ-loop
-returns c = set-here _ _ _ (c .before .before .loop-test .taken) (c .if1 .taken) (c .before .before .before .loop .inv .1)
+returns c =
+    first-here isSet 0 _ _ _ (c .before .before .loop-test .taken) (nonzero-set _ (c .if1 .taken)) (c .before .before .before .loop .inv .1)
 
 add-at : tie.Need-add-at Inv-loop μ-loop
 add-at c = search needs
@@ -31,10 +33,13 @@ loop-less : tie.Need-loop-less Inv-loop μ-loop
 loop-less c = search needs
 
 loop-again : tie.Need-loop-again Inv-loop μ-loop
-loop-again c = (search needs, set-next _ _ _ (c .before .before .loop-test .taken) (c .if1 .left) (c .before .before .before .loop .inv .1))
+loop-again c = (
+  search needs,
+  first-next isSet 0 _ _ _ (c .before .before .loop-test .taken) (zero-unset _ (c .if1 .left)) (c .before .before .before .loop .inv .1),
+)
 
 returns-2 : tie.Need-returns-2 Inv-loop μ-loop
-returns-2 c = set-end _ _ _ (c .loop-test .left) (c .before .loop .inv .1)
+returns-2 c = first-end isSet 0 _ _ _ (c .loop-test .left) (c .before .loop .inv .1)
 
 pub first-set-spec : {M : Type 1} → statement M
 first-set-spec =

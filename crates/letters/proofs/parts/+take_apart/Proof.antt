@@ -1,5 +1,5 @@
 -- `letters::parts::take_apart`, which calls itself, meets its contract: at the depth 0 the code
--- point itself, else its one part, or the parts of its two parts one behind the other.
+-- point itself, else its one part, or the parts of its two parts one after the other.
 use Rattle.letters.proofs.FullParts.{parts-some, parts-none, parts-one, parts-two}
 use Rattle.laws.proofs.Filling.{wrote-one, wrote-two, room-one, room-first, room-second}
 use native.Mathlib.Omega.{arith}

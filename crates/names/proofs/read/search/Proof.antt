@@ -9,10 +9,10 @@ use Rattle.names.proofs.read.search.Statement.{statement}
 use Rattle.names.proofs.read.search.Tie as tie
 
 abbrev Inv-loop2 : tie.InvT-loop2
-Inv-loop2 name initials peaks finals i initial p peak behind-initial f₀ f = Finals name i initial p peak f
+Inv-loop2 name initials peaks finals i initial p peak after-initial f₀ f = Finals name i initial p peak f
 
 abbrev μ-loop2 : tie.MeasureT-loop2
-μ-loop2 name initials peaks finals i initial p peak behind-initial f₀ f = 28 - f
+μ-loop2 name initials peaks finals i initial p peak after-initial f₀ f = 28 - f
 
 abbrev Inv-loop : tie.InvT-loop
 Inv-loop name initials peaks finals i initial p₀ p = Peaks name i initial p

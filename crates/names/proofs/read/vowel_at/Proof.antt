@@ -1,12 +1,12 @@
 -- `names::read::vowel_at` meets its contract: after the name's end there is no letter, and each of
 -- the seven letters is looked for.
-use Rattle.names.proofs.Search.{vowel-behind, vowel-here, vowel-yes, vowel-no}
+use Rattle.names.proofs.Search.{vowel-after, vowel-here, vowel-yes, vowel-no}
 use borrow.Author.Needs.{needs}
 use Rattle.names.proofs.read.vowel_at.Statement.{statement}
 use Rattle.names.proofs.read.vowel_at.Tie as tie
 
 returns : tie.Need-returns
-returns c = vowel-behind _ _ (c .if1 .taken)
+returns c = vowel-after _ _ (c .if1 .taken)
 
 shared-slice-read-match : tie.Need-shared-slice-read-match
 shared-slice-read-match c = search needs

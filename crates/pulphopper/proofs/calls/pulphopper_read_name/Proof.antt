@@ -1,5 +1,5 @@
--- `pulphopper::pulphopper_read_name` meets its contract: what reading a name answers, in the three
--- numbers of an answer.
+-- `pulphopper::calls::pulphopper_read_name` meets its contract: what reading a name answers, in the
+-- three numbers of an answer.
 use Rattle.pulphopper.proofs.Replies.{reads-done, reads-refused}
 use borrow.Author.Needs.{needs}
 use Rattle.pulphopper.proofs.calls.pulphopper_read_name.Statement.{statement}

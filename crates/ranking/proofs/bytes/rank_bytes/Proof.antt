@@ -1,4 +1,4 @@
--- `ranking::bytes::rank` meets its contract: the check refuses, or the two texts are ranked.
+-- `ranking::bytes::rank_bytes` meets its contract: the check refuses, or the two texts are ranked.
 use Rattle.answers.proofs.Verdicts.{checks-passed}
 use Rattle.ranking.proofs.Calls.{two-bytes-short, ranks-bytes-refused, ranks-bytes-stands}
 use borrow.Author.Needs.{needs}

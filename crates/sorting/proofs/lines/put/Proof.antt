@@ -17,7 +17,7 @@ slice-write-out c =
 add-result : tie.Need-add-result
 add-result c =
     let start = c .before .before .before .before .before in
-    omega (arith, start .pre .fits, start .good, c .before .before .put-decimal .ensures .behind, line-length (start .args .number))
+    omega (arith, start .pre .fits, start .good, c .before .before .put-decimal .ensures .after, line-length (start .args .number))
 
 same-length : tie.Need-same-length
 same-length c = search needs

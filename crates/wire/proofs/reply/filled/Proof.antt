@@ -1,6 +1,6 @@
 -- `wire::reply::filled` meets its contract.
 use mathlib.Core.Path.{sym, ap, _∙_}
-use Rattle.wire.specs.Messages.{short, filledWith}
+use Rattle.wire.specs.Messages.{short, filledReply}
 use borrow.Author.Needs.{needs}
 use Rattle.wire.proofs.reply.filled.Statement.{statement}
 use Rattle.wire.proofs.reply.filled.Tie as tie
@@ -19,10 +19,10 @@ refused-requires c κs = search needs
 
 returns : tie.Need-returns
 unfolding short
-returns c = c .counted .ensures ∙ sym (ap filledWith (c .before .before .answer .given .1))
+returns c = c .counted .ensures ∙ sym (ap filledReply (c .before .before .answer .given .1))
 
 returns-2 : tie.Need-returns-2
-returns-2 c = c .refused .ensures ∙ sym (ap filledWith (c .before .before .answer2 .given .1))
+returns-2 c = c .refused .ensures ∙ sym (ap filledReply (c .before .before .answer2 .given .1))
 
 pub filled-spec : {M : Type 1} → statement M
 filled-spec =
