@@ -1,13 +1,16 @@
-/* A QEMU plugin that counts the guest instructions a program executes, and writes the count to a file when it ends:
-   qemu-x86_64 -plugin file=count.so,out=FILE[,call=1] PROGRAM .. It measures no time and knows nothing of the program.
+/* A QEMU plugin that counts the guest instructions a program executes, and writes the count to a
+   file when it ends: qemu-x86_64 -plugin file=count.so,out=FILE[,call=1] PROGRAM .. It measures no
+   time and knows nothing of the program.
 
-   It adds 1 for each instruction, by code put in line where QEMU offers that (up to 8.2), else by a call; call=1 asks for the call, which is slower and
-   must give the same count (bench/counting tests that). It does not add up the lengths of translated blocks: QEMU 7.2 counts an instruction that
-   lies across the end of a page with the block before it and again with its own, so that a loop's count would depend on where the linker put it.
-   A REP string instruction counts once for each of its rounds.
+   It adds 1 for each instruction, by code put in line where QEMU offers that (up to 8.2), else by a
+   call; call=1 asks for the call, which is slower and must give the same count (bench/counting
+   tests that). It does not add up the lengths of translated blocks: QEMU 7.2 counts an instruction
+   that lies across the end of a page with the block before it and again with its own, so that a
+   loop's count would depend on where the linker put it. A REP string instruction counts once for
+   each of its rounds.
 
-   Debian packages no qemu-plugin.h, so the few declarations needed stand here. Of what they declare, only the number in qemu_plugin_version moves:
-   1 up to QEMU 8.2, 2 and more later. */
+   Debian packages no qemu-plugin.h, so the few declarations needed stand here. Of what they
+   declare, only the number in qemu_plugin_version moves: 1 up to QEMU 8.2, 2 and more later. */
 
 #include <stddef.h>
 #include <stdint.h>

@@ -1,13 +1,16 @@
-/* The driver: linked with one implementation (bench/peer.h), it does one job over one input file. It judges no answer: bench/report.py does.
+/* The driver: linked with one implementation (bench/peer.h), it does one job over one input file.
+   It judges no answer: bench/report.py does.
 
        PROGRAM jobs                    the jobs that it can do, one a line
        PROGRAM JOB FILE out            do it once and write the answers
        PROGRAM JOB FILE NN             do it NN times (two digits) and write nothing, to be counted
 
-   JOB is mend, name, read, rank, sort, or tight: mend with a buffer just as long as the answer, so that nothing may be written before it is known to
-   fit (the length is found beforehand, in each run alike). FILE is a row of records: length (4 bytes, low first), the bytes, one zero byte. A job takes a
-   record each, rank takes two, name takes its code point from a record's four bytes. Answers are records too, without the zero byte; where mend,
-   name or sort refuses, a length of FFFFFFFF with nothing behind it; read and rank answer four bytes, low first. */
+   JOB is mend, name, read, rank, sort, or tight: mend with a buffer just as long as the answer, so
+   that nothing may be written before it is known to fit (the length is found beforehand, in each
+   run alike). FILE is a row of records: length (4 bytes, low first), the bytes, one zero byte. A
+   job takes a record each, rank takes two, name takes its code point from a record's four bytes.
+   Answers are records too, without the zero byte; where mend, name or sort refuses, a length of
+   FFFFFFFF with nothing after it; read and rank answer four bytes, low first. */
 #include <stdio.h>
 #include <string.h>
 #include "peer.h"
@@ -49,7 +52,8 @@ ALWAYS long read(size_t i) { return peer.read(record[i].at, record[i].length); }
 ALWAYS long sort(size_t i) { return peer.sort(record[i].at, record[i].length, out, ROOM); }
 ALWAYS long rank(size_t i) { return peer.rank(record[i].at, record[i].length, record[i + 1].at, record[i + 1].length); }
 
-/* A pass over the whole file. Each is a loop of its own, with the call in it, so that the driver adds little to what is counted. */
+/* A pass over the whole file. Each is a loop of its own, with the call in it, so that the driver
+   adds little to what is counted. */
 ALWAYS void pass(long (*once)(size_t), size_t takes)
 {
     static volatile long sink;

@@ -1,8 +1,10 @@
-"""inputs.py FOLDER: writes the benchmark's inputs there and, beside each, the answers expected of an implementation that does the whole job.
-It asks no peer and no part of the library: the answers come from Python's decoder and its Unicode database.
+"""inputs.py FOLDER: writes the benchmark's inputs there and, beside each, the answers expected of an
+implementation that does the whole job. It asks no peer and no part of the library: the answers come
+from Python's decoder and its Unicode database.
 
-NAME.rec is the input (records as in driver.c), NAME.want the answers as the driver writes them. The generator is seeded and our own, so that every
-Python writes the same bytes. The texts hold nothing on which NFC and the joining of Hangul letters alone could differ, and that is checked.
+NAME.rec is the input (records as in driver.c), NAME.want the answers as the driver writes them. The
+generator is seeded and our own, so that every Python writes the same bytes. The texts hold nothing
+on which NFC and the joining of Hangul letters alone could differ, and that is checked.
 """
 import os
 import struct
@@ -101,7 +103,8 @@ def ascii_label(random):
 
 
 def mixed_label(random):
-    """Of ten words three are English, two numbers, one a letter and a number, three Hangul in syllables, one Hangul in letters."""
+    """Of ten words three are English, two numbers, one a letter and a number, three Hangul in
+    syllables, one Hangul in letters."""
     parts = []
     for _ in range(2 + random.below(3)):
         kind = random.below(10)
@@ -126,7 +129,7 @@ def short_label(random):
 
 
 def variant(random, label):
-    """A label that is often equal to the given one, or different only in a number or behind."""
+    """A label that is often equal to the given one, or differs only in a number or in its end."""
     kind, text = random.below(6), label.decode()
     if kind == 0:
         return unicodedata.normalize("NFD", text).encode()
@@ -209,7 +212,8 @@ def odd_texts():
 
 
 def plan():
-    """As many records as a label file may have: object, berth, label. The labels begin alike; every boat is in both spellings, at several berths."""
+    """As many records as a label file may have: object, berth, label. The labels begin alike; every
+    boat is in both spellings, at several berths."""
     random = Random(9)
     boats = [word(random) for _ in range(60)]
     records = []

@@ -1,5 +1,5 @@
-/* What one implementation offers to the driver (bench/driver.c). A job that it cannot do is a null pointer.
-   It is no interface of Pulphopper: that is include/pulphopper.h. */
+/* What one implementation offers to the driver (bench/driver.c). A job that it cannot do is a null
+   pointer. It is no interface of Pulphopper: that is include/pulphopper.h. */
 #ifndef PEER_H
 #define PEER_H
 
@@ -9,9 +9,10 @@
 struct peer {
     /* Called once before anything else; 0 when ready. May be null. */
     int (*start)(void);
-    /* UTF-8 in, joined UTF-8 out. Bytes written, or -1 when it refuses. text[length] is a zero byte. */
+    /* UTF-8 in, joined UTF-8 out. Bytes written, or -1 when it refuses. text[length] is a zero
+       byte. */
     long (*mend)(const uint8_t *text, size_t length, uint8_t *out, size_t room);
-    /* The name of a code point, no zero byte behind it. Bytes written, or -1. */
+    /* The name of a code point, no zero byte after it. Bytes written, or -1. */
     long (*name)(uint32_t code, uint8_t *out, size_t room);
     /* The code point that has this name, or -1. name[length] is a zero byte. */
     long (*read)(const uint8_t *name, size_t length);

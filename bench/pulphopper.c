@@ -1,5 +1,6 @@
-/* Pulphopper's calls for C behind the driver's interface. It sorts no label file: that row is counted on the program, target/bin/ranker.
-   It adds nothing to a call but the test of its refusal. */
+/* Pulphopper's calls for C behind the driver's interface. It sorts no label file: that row is
+   counted on the program, target/bin/ranker. It adds nothing to a call but the test of its
+   refusal. */
 #include "../include/pulphopper.h"
 #include "peer.h"
 

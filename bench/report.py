@@ -1,8 +1,11 @@
-"""report.py COMMAND ..: compares answers, reckons what was counted and prints it; bench/run calls it. It runs and counts nothing itself.
+"""report.py COMMAND ..: compares answers, reckons what was counted and prints it; bench/run calls it.
+It runs and counts nothing itself.
 
     agree JOB OUT WANT                  prints: same | refused | differs, then AGREEING/ALL
-    rows                                JOB INPUT FEW MANY: what to measure, and the two numbers of passes whose difference is counted
-    check RESULTS TARGETS               Pulphopper's rows against their targets; exits 1 where one is over it, or was not counted
+    rows                                JOB INPUT FEW MANY: what to measure, and the two numbers of
+                                        passes whose difference is counted
+    check RESULTS TARGETS               Pulphopper's rows against their targets; exits 1 if one is
+                                        over it, or was not counted
     tables RESULTS TARGETS ID=LABEL..   the tables, in markdown
 RESULTS has JOB.INPUT.ID.{agree,few,many} files.
 """

@@ -1,5 +1,6 @@
-/* A program with a known count, to try the counting plugin on: its argument is two decimal digits, r, and each of r rounds executes exactly
-   1 + 4 * 1000 + 2 = 4003 instructions. One instruction of the inner loop lies across the end of a page. It tries nothing of the library. */
+/* A program with a known count, to try the counting plugin on: its argument is two decimal digits,
+   r, and each of r rounds executes exactly 1 + 4 * 1000 + 2 = 4003 instructions. One instruction of
+   the inner loop lies across the end of a page. It tries nothing of the library. */
         .globl  _start
         .text
 _start: mov     16(%rsp), %rsi          /* argv[1] */

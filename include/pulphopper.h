@@ -143,7 +143,7 @@ enum {
    sort: (int)answer.value - PULPHOPPER_EQUAL is what qsort asks for (docs/C.md). Labels that rank
    equal need not be the same bytes.
 
-   Refuses PULPHOPPER_OVER_LIMIT where either label is too long, and does not say which. */
+   Refuses PULPHOPPER_OVER_LIMIT if either label is too long, and does not say which. */
 pulphopper_answer pulphopper_rank(const uint8_t *first, size_t first_len, const uint8_t *second, size_t second_len);
 
 #ifdef __cplusplus

@@ -1,5 +1,6 @@
-# What tests/promises and tests/premises both read: the functions that the libraries export, each with
-# its contract in the words of a statement, and which file each word of a text is brought in from.
+# What tests/promises and tests/premises both read: the functions that the libraries export, each
+# with its contract in the words of a statement, and which file each word of a text is brought in
+# from.
 package exported;
 use strict;
 use warnings;
@@ -22,7 +23,8 @@ sub origins {
 
 # the exported functions by crate::name: those that a lib.rt brings out by `pub use`. Of each: its
 # parameters as [name, type], its result, the buffers that it may write, its contract (X is a buffer
-# before the call, X′ after it, r the result), the origins of the contract's words; and what is wrong.
+# before the call, X′ after it, r the result), the origins of the contract's words; and what is
+# wrong.
 sub functions {
     my (%functions, @wrong);
     for my $lib (glob "crates/*/src/lib.rt") {

@@ -1,16 +1,20 @@
-/* The same contract by somebody who thinks of speed, in scalar and portable C: most text comes out as it went in, so the scan only looks, and copies
-   whole runs. ASCII goes eight bytes at a time; a syllable is made where an initial is met, by looking ahead, or where a final is met, by looking back. */
+/* The same contract by somebody who thinks of speed, in scalar and portable C: most text comes out
+   as it went in, so the scan only looks, and copies whole runs. ASCII goes eight bytes at a time; a
+   syllable is made where an initial is met, by looking ahead, or where a final is met, by looking
+   back. */
 #include <string.h>
 #include "../peer.h"
 
 #define ALWAYS static inline __attribute__((always_inline))
 
-/* Where the scan is, where the run that is not copied yet begins, and what is written; where write is 0, which each caller knows, it only counts. */
+/* Where the scan is, where the run that is not copied yet begins, and what is written; where write
+   is 0, which each caller knows, it only counts. */
 struct scan { const uint8_t *p, *end, *from; uint8_t *out; size_t at; uint32_t lost; int write; };
 
 ALWAYS int continues(uint8_t byte) { return (byte & 0xC0) == 0x80; }
 
-/* The length of the well-formed sequence at p, or minus the length of the ill-formed maximal subpart. */
+/* The length of the well-formed sequence at p, or minus the length of the ill-formed maximal
+   subpart. */
 static inline int sequence(const uint8_t *p, const uint8_t *end)
 {
     size_t left = (size_t)(end - p);
@@ -26,7 +30,8 @@ static inline int sequence(const uint8_t *p, const uint8_t *end)
     return left > 3 && continues(p[3]) ? 4 : -3;
 }
 
-/* Three bytes as one number, the first lowest; 0 where fewer than three are left. It reads four where it can. */
+/* Three bytes as one number, the first lowest; 0 where fewer than three are left. It reads four
+   where it can. */
 ALWAYS uint32_t three(const uint8_t *p, const uint8_t *end)
 {
     uint32_t word;
@@ -43,7 +48,7 @@ ALWAYS uint32_t final_of(uint32_t word)
     return (word & 0xFFFF) == 0x87E1 && last >= 0x80 && last <= 0x82 ? last - 0x80 + 25 : 0;
 }
 
-/* Copies the run up to `to`, writes the code point behind it, and begins the next run at p. */
+/* Copies the run up to `to`, writes the code point after it, and begins the next run at p. */
 ALWAYS void replace(struct scan *s, const uint8_t *to, uint32_t code)
 {
     size_t length = (size_t)(to - s->from);

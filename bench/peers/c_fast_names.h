@@ -1,5 +1,5 @@
-/* Names by somebody who thinks of speed: a name is put together from whole words in a buffer of its own, then copied; it is read letter by letter, with
-   no search. It names nothing but syllables. */
+/* Names by somebody who thinks of speed: a name is put together from whole words in a buffer of its
+   own, then copied; it is read letter by letter, with no search. It names nothing but syllables. */
 
 static const char initials[19][4] = {
     "G", "GG", "N", "D", "DD", "R", "M", "B", "BB", "S", "SS", "", "J", "JJ", "C", "K", "T", "P", "H"
@@ -34,7 +34,8 @@ static long name(uint32_t code, uint8_t *out, size_t room)
     return (long)at;
 }
 
-/* By letter, A to Z: the initial of that letter alone, or 31; with 32 added where it may stand twice. */
+/* By letter, A to Z: the initial of that letter alone, or 31; with 32 added where it may stand
+   twice. */
 static const uint8_t initial_of[26] = {
     31, 39, 14, 35, 31, 31, 32, 18, 31, 44, 15, 31, 6, 2, 31, 17, 31, 5, 41, 16, 31, 31, 31, 31, 31, 31
 };

@@ -1,5 +1,6 @@
-/* Mending as both C peers keep the contract: over 16,384 bytes are refused, and so is a buffer that is too small, before a byte is written.
-   How a text is mended is not here: each peer has its own run(), above the #include. */
+/* Mending as both C peers keep the contract: over 16,384 bytes are refused, and so is a buffer that
+   is too small, before a byte is written. How a text is mended is not here: each peer has its own
+   run(), above the #include. */
 
 #define LIMIT 16384
 

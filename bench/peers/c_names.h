@@ -1,5 +1,5 @@
-/* Naming a syllable and reading a name, as plain C: three tables, and a search for the longest entry.
-   It names nothing but syllables. */
+/* Naming a syllable and reading a name, as plain C: three tables, and a search for the longest
+   entry. It names nothing but syllables. */
 
 struct part { uint8_t length; char letters[3]; };
 
@@ -38,8 +38,9 @@ static long name(uint32_t code, uint8_t *out, size_t room)
     return (long)add(final, out, at);
 }
 
-/* The longest entry of the list that stands at the front of the letters, or -1. An initial never ends and a final never begins with a letter of a peak,
-   so the longest is the only one that can fit. */
+/* The longest entry of the list that stands at the front of the letters, or -1. An initial never
+   ends and a final never begins with a letter of a peak, so the longest is the only one that can
+   fit. */
 static inline int longest(const struct part *list, int count, const uint8_t *letters, size_t length)
 {
     int best = -1;

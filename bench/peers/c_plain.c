@@ -1,11 +1,13 @@
-/* What a good C programmer writes without thinking of speed: a decoder that stops at the end of each maximal subpart, a joiner that holds back one code
-   point, an encoder. It keeps the whole contract (c_mend.h); nothing of it is proved. */
+/* What a good C programmer writes without thinking of speed: a decoder that stops at the end of
+   each maximal subpart, a joiner that holds back one code point, an encoder. It keeps the whole
+   contract (c_mend.h); nothing of it is proved. */
 #include <string.h>
 #include "../peer.h"
 
 #define BAD 0xFFFFFFFFu
 
-/* Reads the sequence at p, or BAD for an ill-formed maximal subpart, and answers the place behind it. */
+/* Reads the sequence at p, or BAD for an ill-formed maximal subpart, and answers the place after
+   it. */
 static inline const uint8_t *decode(const uint8_t *p, const uint8_t *end, uint32_t *code)
 {
     uint32_t lead = *p++, least = 0x80, most = 0xBF, value;

@@ -1,5 +1,6 @@
-/* Ranking in C: both labels mended (by the mend above the #include), then compared item by item. UTF-8 keeps the order of code points, so what is
-   no number is compared byte by byte. It is another way than Pulphopper's, which stores nothing. */
+/* Ranking in C: both labels mended (by the mend above the #include), then compared item by item.
+   UTF-8 keeps the order of code points, so what is no number is compared byte by byte. It is
+   another way than Pulphopper's, which stores nothing. */
 
 static inline int digit(uint8_t byte) { return (uint8_t)(byte - '0') <= 9; }
 

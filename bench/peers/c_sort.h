@@ -1,5 +1,6 @@
-/* Sorting a label file in C: every record is judged and its label mended once, then qsort compares what was mended. It keeps all mended labels, in
-   some 190,000 bytes; the ranker keeps none. It refuses without saying what or where. */
+/* Sorting a label file in C: every record is judged and its label mended once, then qsort compares
+   what was mended. It keeps all mended labels, in some 190,000 bytes; the ranker keeps none. It
+   refuses without saying what or where. */
 #include <stdlib.h>
 
 #define RECORD 96

@@ -1,5 +1,6 @@
-// ICU: Normalizer2::normalizeUTF8, straight from UTF-8 to UTF-8; u_charName and u_charFromName; the root collator with numeric ordering.
-// Its order is another than Pulphopper's, but the nearest call; it leaves ill-formed bytes as they are.
+// ICU: Normalizer2::normalizeUTF8, straight from UTF-8 to UTF-8; u_charName and u_charFromName; the
+// root collator with numeric ordering. Its order is another than Pulphopper's, but the nearest
+// call; it leaves ill-formed bytes as they are.
 #include <unicode/bytestream.h>
 #include <unicode/normalizer2.h>
 #include <unicode/stringpiece.h>

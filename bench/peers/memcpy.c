@@ -1,5 +1,6 @@
-/* The floor: the bytes are moved and nothing is looked at. It does none of the work, so its answers are not judged.
-   No implementation can take fewer instructions than this, unless it writes nothing. */
+/* The floor: the bytes are moved and nothing is looked at. It does none of the work, so its answers
+   are not judged. No implementation can take fewer instructions than this, unless it writes
+   nothing. */
 #include <string.h>
 #include "../peer.h"
 

@@ -1,5 +1,6 @@
-/* utf8proc: utf8proc_map with NFC, the documented call; it sizes, allocates, decomposes and re-encodes.
-   It refuses ill-formed text and has no names and no order, so those rows stay empty. */
+/* utf8proc: utf8proc_map with NFC, the documented call; it sizes, allocates, decomposes and
+   re-encodes. It refuses ill-formed text and has no names and no order, so those rows stay
+   empty. */
 #include <stdlib.h>
 #include <string.h>
 #include <utf8proc.h>

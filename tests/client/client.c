@@ -1,5 +1,6 @@
-/* A client of the library in plain C99 that is C++ as well: it holds every call to what include/pulphopper.h says of it, from the caller's side.
-   It is no proof and no example of use, and it tries no call in depth: that is the work of the second program. */
+/* A client of the library in plain C99 that is C++ as well: it holds every call to what
+   include/pulphopper.h says of it, from the caller's side. It is no proof and no example of use,
+   and it tries no call in depth: that is the work of the second program. */
 #include "client.h"
 
 #include <stdio.h>

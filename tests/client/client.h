@@ -1,5 +1,6 @@
-/* What the files of the client share: counting, lent buffers between fences, and pages that may not be touched.
-   It calls nothing of the library: mending.c, naming.c, ranking.c and stack.c do, which hold each call to what include/pulphopper.h says of it. */
+/* What the files of the client share: counting, lent buffers between fences, and pages that may not
+   be touched. It calls nothing of the library: mending.c, naming.c, ranking.c and stack.c do, which
+   hold each call to what include/pulphopper.h says of it. */
 #ifndef CLIENT_H
 #define CLIENT_H
 
@@ -19,7 +20,8 @@ void announce(const char *name);
 
 #define RUN(name) (announce(#name), name())
 
-/* ---- lent buffers: each stands between two fences, and is compared with what it was after every call */
+/* ---- lent buffers: each stands between two fences, and is compared with what it was after every
+   call */
 
 #define FENCE 64 /* and up to 15 bytes more, so that calls meet every alignment */
 #define MOST_TEXT (PULPHOPPER_LIMIT + 1)
@@ -35,7 +37,8 @@ extern lent text_lent;
 extern lent out_lent;
 extern size_t calls_made;
 
-/* Fills a buffer of `size` bytes, and its fences, with bytes that differ from their neighbours, so that a moved one shows; other ones for each seed. */
+/* Fills a buffer of `size` bytes, and its fences, with bytes that differ from their neighbours, so
+   that a moved one shows; other ones for each seed. */
 void fill(lent *buffer, size_t size, size_t seed);
 
 void remember(lent *buffer);
@@ -46,7 +49,8 @@ int unchanged_but(const lent *buffer, size_t from, size_t count);
 /* ---- pages that may not be touched */
 
 typedef struct pages {
-    uint8_t *good; /* `size` bytes between two pages that may not be touched; NULL where there are no such pages */
+    /* `size` bytes between two pages that may not be touched; NULL where there are no such pages */
+    uint8_t *good;
     size_t size;
 } pages;
 
@@ -54,7 +58,8 @@ typedef struct pages {
 pages guarded_bytes(size_t size);
 pages guarded_pages(void);
 
-/* Where a text can be said to stand that must not be read: an untouchable page, else a single good byte. */
+/* Where a text can be said to stand that must not be read: an untouchable page, else a single good
+   byte. */
 const uint8_t *unreadable(void);
 
 /* ---- small things */
@@ -70,8 +75,8 @@ int is(pulphopper_answer answer, uint32_t refusal, uint64_t value, uint32_t coun
 /* Fills a text with a piece, again and again; the last may be cut. */
 void repeat(uint8_t *text, size_t text_len, const char *piece, size_t piece_len);
 
-/* Does `refused` with lengths over the limit, up to SIZE_MAX; also such that are `small` again when cut to 32 or 16 bits, or small when two or three of
-   them are added. */
+/* Does `refused` with lengths over the limit, up to SIZE_MAX; also such that are `small` again when
+   cut to 32 or 16 bits, or small when two or three of them are added. */
 void each_length_over(size_t small, void (*refused)(size_t length));
 
 /* ---- the checks, by what is called */

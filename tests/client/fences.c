@@ -1,5 +1,5 @@
-/* Counting, lent buffers between fences, and pages that may not be touched: client.h says what each is for.
-   It calls nothing of the library. */
+/* Counting, lent buffers between fences, and pages that may not be touched: client.h says what each
+   is for. It calls nothing of the library. */
 #ifndef _DEFAULT_SOURCE
 #define _DEFAULT_SOURCE 1 /* for MAP_ANONYMOUS */
 #endif
@@ -45,9 +45,9 @@ void fill(lent *buffer, size_t size, size_t seed) {
 void remember(lent *buffer) { memcpy(buffer->before, buffer->now, buffer->used); }
 
 int unchanged_but(const lent *buffer, size_t from, size_t count) {
-    size_t behind = from + count;
+    size_t after = from + count;
     return memcmp(buffer->now, buffer->before, from) == 0 &&
-           memcmp(buffer->now + behind, buffer->before + behind, buffer->used - behind) == 0;
+           memcmp(buffer->now + after, buffer->before + after, buffer->used - after) == 0;
 }
 
 /* ---- pages that may not be touched */

@@ -7,8 +7,9 @@
 /* What stands in the lent buffer after the last call; good until the next. */
 static const uint8_t *made;
 
-/* The call on a copy of the text. Whatever the answer: no fence, no byte of the text and no byte of the buffer behind what was
-   written may have changed; after a refusal none at all. The buffer has `real` bytes and is said to have `out_len`. */
+/* The call on a copy of the text. Whatever the answer: no fence, no byte of the text and no byte of
+   the buffer after what was written may have changed; after a refusal none at all. The buffer has
+   `real` bytes and is said to have `out_len`. */
 static pulphopper_answer mend_as(const uint8_t *text, size_t text_len, size_t real, size_t out_len) {
     size_t text_at = FENCE + calls_made % 16;
     size_t out_at = FENCE + calls_made / 3 % 16;
@@ -80,7 +81,7 @@ static const sample GOOD[] = {
     {BYTES("\xE1\x84\x80" NONE "\xE1\x85\xA1"), BYTES("\xE1\x84\x80" NONE "\xE1\x85\xA1"), 0},
 };
 
-/* What table 3-7 does not have, at each of its boundaries, and what stands before and behind it. */
+/* What table 3-7 does not have, at each of its boundaries, and what stands before and after it. */
 static const sample BAD[] = {
     {BYTES("\x80"), BYTES(NONE), 1},
     {BYTES("\xBF"), BYTES(NONE), 1},
@@ -346,7 +347,8 @@ static void nothing_is_kept_between_calls(void) { each_sample(nothing_is_kept_be
 static pages text_pages;
 static pages out_pages;
 
-/* With the text and the buffer against the untouchable pages, once at their ends and once at their beginnings. */
+/* With the text and the buffer against the untouchable pages, once at their ends and once at their
+   beginnings. */
 static void touches_nothing_outside_with(const sample *one) {
     uint8_t *text = text_pages.good + text_pages.size - one->text_len;
     uint8_t *out = out_pages.good + out_pages.size - one->whole_len;

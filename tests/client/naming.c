@@ -1,5 +1,5 @@
-/* Checks of pulphopper_name and pulphopper_read_name, from the caller's side.
-   Which name is whose, beyond some, is the work of the second program; here each of the two has to undo the other. */
+/* Checks of pulphopper_name and pulphopper_read_name, from the caller's side. Which name is whose,
+   beyond some, is the work of the second program; here each of the two has to undo the other. */
 #include "client.h"
 
 #include <string.h>
@@ -41,7 +41,8 @@ static const known KNOWN[] = {
     {0xD7A3, BYTES(PREFIX "HIH")},
 };
 
-/* What is no syllable: beside them, letters, surrogates, what is no code point, and what is a syllable again when bits are lost. */
+/* What is no syllable: beside them, letters, surrogates, what is no code point, and what is a
+   syllable again when bits are lost. */
 static const uint32_t NO_SYLLABLES[] = {
     0,      0x41,   0x1100, 0x1161, 0x11A8, 0x3131, 0xABFF,  0xD7A4,   0xD7A5,   0xD7FF,     0xD800,
     0xDBFF, 0xDC00, 0xDFFF, 0xE000, 0xFFFF, 0x1AC00, 0x10AC00, 0x10FFFF, 0x110000, 0x11AC00, 0x7FFFFFFF,
@@ -53,8 +54,9 @@ static const uint32_t NO_SYLLABLES[] = {
 /* What stands in the lent buffer after the last call; good until the next. */
 static const uint8_t *made;
 
-/* The call. Whatever the answer: no fence and no byte of the buffer behind what was written may have changed; after a refusal none at
-   all. The buffer has `real` bytes and is said to have `out_len`. */
+/* The call. Whatever the answer: no fence and no byte of the buffer after what was written may have
+   changed; after a refusal none at all. The buffer has `real` bytes and is said to have
+   `out_len`. */
 static pulphopper_answer name_as(uint32_t code, size_t real, size_t out_len) {
     size_t out_at = FENCE + calls_made % 16;
     size_t written = 0;
@@ -163,7 +165,8 @@ static void is_read(const known *one) {
 
 static void names_are_read(void) { each_known(is_read); }
 
-/* What the library itself wrote is read back, for each syllable; it needs as much room as it says. */
+/* What the library itself wrote is read back, for each syllable; it needs as much room as it
+   says. */
 static void all_11172_names_are_read_back(void) {
     uint32_t code;
     unsigned long count = 0;
@@ -195,15 +198,15 @@ static void counts_in_capitals_alone(const known *one) {
 static void a_small_letter_makes_no_name(void) { each_known(counts_in_capitals_alone); }
 
 static void ends_where_it_ends(const known *one) {
-    static const char behind[] = {'\0', ' ', '\n', 'a', '0', '1', 'Q', '\x7F', '\x80', '\xFF'};
+    static const char after[] = {'\0', ' ', '\n', 'a', '0', '1', 'Q', '\x7F', '\x80', '\xFF'};
     uint8_t copy[2 * PULPHOPPER_NAME_MOST];
     size_t i;
-    for (i = 0; i < COUNT_OF(behind); i++) {
+    for (i = 0; i < COUNT_OF(after); i++) {
         memcpy(copy, one->name, one->name_len);
-        copy[one->name_len] = (uint8_t)behind[i];
+        copy[one->name_len] = (uint8_t)after[i];
         CHECK(is_no_name(copy, one->name_len + 1));
         memcpy(copy + 1, one->name, one->name_len);
-        copy[0] = (uint8_t)behind[i];
+        copy[0] = (uint8_t)after[i];
         CHECK(is_no_name(copy, one->name_len + 1));
     }
     memcpy(copy, one->name, one->name_len);
@@ -211,7 +214,7 @@ static void ends_where_it_ends(const known *one) {
     CHECK(is_no_name(copy, 2 * one->name_len));
 }
 
-static void a_byte_behind_or_before_makes_no_name(void) { each_known(ends_where_it_ends); }
+static void a_byte_after_or_before_makes_no_name(void) { each_known(ends_where_it_ends); }
 
 /* A byte of the prefix missing, the prefix cut at each place, and its front lost. */
 static void needs_every_byte_of_the_prefix(const known *one) {
@@ -232,7 +235,8 @@ typedef struct text {
     size_t length;
 } text;
 
-/* Names with a byte of their last part missing or wrong, and strings of no list; source document 003's two figures. */
+/* Names with a byte of their last part missing or wrong, and strings of no list; source document
+   003's two figures. */
 static const text NO_NAMES[] = {
     {BYTES("")},
     {BYTES(PREFIX)},
@@ -283,19 +287,19 @@ static void refused_unread(size_t length) {
 /* 18 is the length of a name. */
 static void a_name_that_is_too_long_is_refused_unread(void) { each_length_over(18, refused_unread); }
 
-/* A name and so many bytes behind it that the whole is as long as the limit, and one longer. */
-static void the_limit_holds_behind(const known *one, int behind) {
+/* A name and so many bytes after it that the whole is as long as the limit, and one longer. */
+static void the_limit_holds_after(const known *one, int after) {
     static uint8_t bytes[MOST_TEXT];
-    memset(bytes, behind, sizeof bytes);
+    memset(bytes, after, sizeof bytes);
     memcpy(bytes, one->name, one->name_len);
     CHECK(is_no_name(bytes, PULPHOPPER_LIMIT));
     CHECK(is(read_name(bytes, PULPHOPPER_LIMIT + 1), PULPHOPPER_OVER_LIMIT, 16384, 0));
 }
 
 static void names_of_16384_bytes_are_none_and_of_16385_over_the_limit(void) {
-    the_limit_holds_behind(&KNOWN[0], 0);
-    the_limit_holds_behind(&KNOWN[0], ' ');
-    the_limit_holds_behind(&KNOWN[1], 'G');
+    the_limit_holds_after(&KNOWN[0], 0);
+    the_limit_holds_after(&KNOWN[0], ' ');
+    the_limit_holds_after(&KNOWN[1], 'G');
 }
 
 /* A call between does not change what the next one answers. */
@@ -313,7 +317,8 @@ static void no_name_is_kept_between_calls(void) { each_known(nothing_is_kept_aft
 
 static pages name_pages;
 
-/* With the name against the untouchable pages, once at its end and once at its beginning, written there and read from there. */
+/* With the name against the untouchable pages, once at its end and once at its beginning, written
+   there and read from there. */
 static void touches_nothing_outside_of(const known *one) {
     uint8_t *places[2];
     size_t i;
@@ -357,7 +362,7 @@ void check_naming(void) {
     RUN(names_are_read);
     RUN(all_11172_names_are_read_back);
     RUN(a_small_letter_makes_no_name);
-    RUN(a_byte_behind_or_before_makes_no_name);
+    RUN(a_byte_after_or_before_makes_no_name);
     RUN(what_is_no_name_is_refused);
     RUN(null_is_taken_for_a_name_of_length_0);
     RUN(a_name_that_is_too_long_is_refused_unread);

@@ -161,7 +161,8 @@ static void a_label_that_is_too_long_is_refused_unread(void) { each_length_over(
 static uint8_t long_label[MOST_TEXT];
 static uint8_t other_label[MOST_TEXT];
 
-/* Labels of LIMIT bytes, of which the last of the second is changed; one byte more, whatever it is, is refused. */
+/* Labels of LIMIT bytes, of which the last of the second is changed; one byte more, whatever it is,
+   is refused. */
 static void the_limit_holds_for(int byte, int last, uint64_t order) {
     memset(long_label, byte, sizeof long_label);
     memset(other_label, byte, sizeof other_label);
@@ -195,7 +196,7 @@ static void zeros_in_front_of_a_number_do_not_count(void) {
     }
 }
 
-/* Behind the length the number, the letters or the sequence would go on. */
+/* After the length the number, the letters or the sequence would go on. */
 static void a_label_ends_where_its_length_says(void) {
     static const char number[] = "1234567";
     static const char letters[] = "\xE1\x84\x80\xE1\x85\xA1\xE1\x86\xA8";
@@ -211,7 +212,8 @@ static void a_label_ends_where_its_length_says(void) {
     CHECK(is_ranked(pulphopper_rank(bytes_of(letters), 8, bytes_of("\xEA\xB0\x80" NONE), 6), PULPHOPPER_EQUAL));
 }
 
-/* The second label is the first, a part of it, or has a part of it: nothing is written, so it may be. */
+/* The second label is the first, a part of it, or has a part of it: nothing is written, so it may
+   be. */
 static void labels_may_overlap(void) {
     static const char bytes[] = "7007 07";
     const uint8_t *at = bytes_of(bytes);

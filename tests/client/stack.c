@@ -1,5 +1,6 @@
-/* How much stack a call takes: each runs in a thread that has 64 KiB, on texts of the limit's size too, and may need at most STACK_MOST of them.
-   It holds no answer to its text, beyond the refusal: mending.c, naming.c and ranking.c do. */
+/* How much stack a call takes: each runs in a thread that has 64 KiB, on texts of the limit's size
+   too, and may need at most STACK_MOST of them. It holds no answer to its text, beyond the refusal:
+   mending.c, naming.c and ranking.c do. */
 #ifndef _DEFAULT_SOURCE
 #define _DEFAULT_SOURCE 1 /* for pthread_attr_setstack */
 #endif
@@ -12,7 +13,8 @@
 
 #define STACK ((size_t)64 * 1024)
 #define PAINT 0xC0    /* no text here has this byte */
-#define UNPAINTED 256 /* bytes below the caller's mark: its own frame, and what painting itself needs */
+/* Bytes below the caller's mark: its own frame, and what painting itself needs. */
+#define UNPAINTED 256
 
 typedef struct task {
     pulphopper_answer (*call)(const struct task *one);
@@ -30,8 +32,8 @@ typedef struct task {
 static pages stack;
 static size_t most_taken;
 
-/* The thread paints what is below itself just before the call, and looks just behind it: how deep the start and the end of a thread reach is the C
-   library's matter, and can hide a call. */
+/* The thread paints what is below itself just before the call, and looks just after it: how deep
+   the start and the end of a thread reach is the C library's matter, and can hide a call. */
 static void *run_painted(void *given) {
     task *one = (task *)given;
     uint8_t mark = 0;
@@ -178,7 +180,8 @@ static void reading_takes_little(const uint8_t *name, size_t name_len, uint32_t 
     takes_little(one, refusal);
 }
 
-/* Every syllable is named and its name read, one behind the other: the answer is that of the last, or the first that is wrong. */
+/* Every syllable is named and its name read, one after the other: the answer is that of the last,
+   or the first that is wrong. */
 static pulphopper_answer call_every_name(const task *one) {
     pulphopper_answer answer = one->answer;
     uint32_t code;
@@ -218,7 +221,8 @@ static void ranking_takes_little(const uint8_t *first, const uint8_t *second, si
     takes_little(one, refusal);
 }
 
-/* Each text with each, and with one that is another only at its end, so that all of both is read. */
+/* Each text with each, and with one that is another only at its end, so that all of both is
+   read. */
 static void ranking_takes_little_stack(void) {
     static uint8_t late[MOST_TEXT];
     size_t i, k;

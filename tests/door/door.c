@@ -1,5 +1,7 @@
-/* The C calls behind one door: reads calls of the kinds that C has (docs/CALLS.md) on standard input, makes them by the archive, writes the answers.
-   It makes up no call and judges no answer: the second program does both. It judges only that a call changed nothing beside what it was lent. */
+/* The C calls behind one door: reads calls of the kinds that C has (docs/CALLS.md) on standard
+   input, makes them by the archive, writes the answers. It makes up no call and judges no answer:
+   the second program does both. It judges only that a call changed nothing beside what it was
+   lent. */
 #ifndef _DEFAULT_SOURCE
 #define _DEFAULT_SOURCE 1 /* for MAP_ANONYMOUS */
 #endif
@@ -22,8 +24,8 @@ static void trouble(const char *what) {
 #define CANARIES 64
 static uint8_t canaries[CANARIES];
 
-/* Bytes between two pages that may not be touched. The buffer of a call stands there, just as long as is said, against one of the pages; at its other
-   side stand canaries. */
+/* Bytes between two pages that may not be touched. The buffer of a call stands there, just as long
+   as is said, against one of the pages; at its other side stand canaries. */
 struct slot {
     uint8_t *first; /* of the bytes between the pages */
     size_t size;
@@ -46,7 +48,8 @@ static struct slot new_slot(size_t most) {
     return slot;
 }
 
-/* Lays a buffer against the page behind it, or against the page in front of it; there an empty one is NULL, which the header allows. */
+/* Lays a buffer against the page after it, or against the page in front of it; there an empty one
+   is NULL, which the header allows. */
 static void lay(struct slot *slot, size_t length, int at_end) {
     slot->length = length;
     slot->bytes = at_end ? slot->first + slot->size - length : slot->first;
@@ -153,8 +156,8 @@ static void check_buffers(void) {
 
 static int put_bytes(const uint8_t *bytes, size_t count) { return fwrite(bytes, 1, count, stdout) == count; }
 
-/* The count goes out whatever the kind: where the kind counts nothing it has to be 0. Each answer goes out at once, so that a call that ends the door is
-   the one whose answer is missing. */
+/* The count goes out whatever the kind: where the kind counts nothing it has to be 0. Each answer
+   goes out at once, so that a call that ends the door is the one whose answer is missing. */
 static void write_answer(pulphopper_answer answer) {
     uint8_t bytes[4 * ANSWER_NUMBERS];
     if (answer.value > UINT32_MAX) {

@@ -107,7 +107,7 @@ impl ByteKind {
         calls
     }
 
-    /// Around the limit and at the protocol's bound: 1 goes before 3, and ill-formed bytes change
+    /// Around the limit and at the wire form's bound: 1 goes before 3, and ill-formed bytes change
     /// nothing in that. The texts may end within a sequence.
     pub fn long(&self) -> Vec<Call> {
         let mut random = Random::new(7);
@@ -149,7 +149,7 @@ impl ByteKind {
         let divided = byte_texts::boundary_sequences(4).into_iter().map(with_wall);
         calls.extend(self.one_by_one(&packed(divided)));
         calls.extend(self.one_by_one(&packed(byte_texts::every_written())));
-        // Cut sequences one behind the other, each ended by the next one's lead byte.
+        // Cut sequences one after the other, each ended by the next one's lead byte.
         calls.extend(self.one_by_one(&packed(byte_texts::every_cut_sequence())));
         calls.extend(self.one_by_one(&byte_texts::damaged_texts(&MIXED_TEXT)));
         calls.extend(self.one_by_one(&byte_texts::changed_texts(&MIXED_TEXT)));

@@ -63,7 +63,7 @@ pub fn byte_pairs() -> Vec<Vec<u8>> {
     pairs
 }
 
-/// Each sequence with each of the pieces behind it.
+/// Each sequence with each of the pieces after it.
 fn longer<Piece: AsRef<[u8]>>(sequences: &[Vec<u8>], pieces: &[Piece]) -> Vec<Vec<u8>> {
     let mut longer = Vec::with_capacity(sequences.len() * pieces.len());
     for sequence in sequences {
@@ -132,7 +132,7 @@ pub fn tempting_texts() -> Vec<Vec<u8>> {
         .collect()
 }
 
-/// The text cut behind and before each byte, with each byte lost, and each doubled.
+/// The text cut after and before each byte, with each byte lost, and each doubled.
 pub fn damaged_texts(text: &[u32]) -> Vec<Vec<u8>> {
     let bytes = written(text);
     let mut texts = vec![bytes.clone()];

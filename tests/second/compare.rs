@@ -148,8 +148,9 @@ pub struct Plan {
     pub kinds: Vec<&'static Kind>,
     pub seed: u64,
     pub calls: usize,
-    /// The number of a chunk where the plan is a part of a long run. Chunks have seeds of their own,
-    /// and no edges: those are the same under every seed, and a long run would only repeat them.
+    /// The number of a chunk where the plan is a part of a long run. Chunks have seeds of their
+    /// own, and no edges: those are the same under every seed, and a long run would only repeat
+    /// them.
     pub chunk: Option<u64>,
 }
 
@@ -169,7 +170,7 @@ impl Plan {
         order.into_iter().map(move |index| sources[index].next())
     }
 
-    /// What to say the calls are, behind their number.
+    /// What to say the calls are, after their number.
     pub fn name(&self) -> String {
         match self.chunk {
             Some(chunk) => format!("chunk {chunk} of seed {}", self.seed),

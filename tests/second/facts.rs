@@ -52,11 +52,11 @@ pub fn all() -> Facts {
     ranking_facts::state_all(&mut facts);
     label_facts::state_all(&mut facts);
     files_of_normalization_tests(&mut facts);
-    frames(&mut facts);
-    frames_of_answers(&mut facts);
-    frames_of_bytes(&mut facts);
-    frames_of_two_texts(&mut facts);
-    frames_of_images(&mut facts);
+    wire_form(&mut facts);
+    wire_form_of_answers(&mut facts);
+    wire_form_of_bytes(&mut facts);
+    wire_form_of_two_texts(&mut facts);
+    wire_form_of_images(&mut facts);
     generator(&mut facts);
     stored_cases(&mut facts);
     compare_facts::state_all(&mut facts);
@@ -117,7 +117,7 @@ fn files_of_normalization_tests(facts: &mut Facts) {
     }
 }
 
-fn frames(facts: &mut Facts) {
+fn wire_form(facts: &mut Facts) {
     let mut call = Call {
         kind: 3,
         x: 0x0102_0304,
@@ -139,7 +139,7 @@ fn frames(facts: &mut Facts) {
     facts.state("a cut call is not read", read(&bytes[..35]).is_none());
 }
 
-fn frames_of_answers(facts: &mut Facts) {
+fn wire_form_of_answers(facts: &mut Facts) {
     let call = (FULL_PARTS.stored)().swap_remove(0);
     let kind = kind_of(&call);
     let answer = (kind.answer)(&call);
@@ -154,7 +154,7 @@ fn frames_of_answers(facts: &mut Facts) {
 }
 
 /// Bytes in and code points out, and the other way round.
-fn frames_of_bytes(facts: &mut Facts) {
+fn wire_form_of_bytes(facts: &mut Facts) {
     let reading = (READING.stored)().swap_remove(0);
     let answer = (READING.answer)(&reading);
     let mut bytes = Vec::new();
@@ -176,8 +176,8 @@ fn frames_of_bytes(facts: &mut Facts) {
     facts.state("such an answer is read as written", read == Some(answer));
 }
 
-/// The second text stands behind the first; a kind that takes none has no place for it.
-fn frames_of_two_texts(facts: &mut Facts) {
+/// The second text stands after the first; a kind that takes none has no place for it.
+fn wire_form_of_two_texts(facts: &mut Facts) {
     let call = Call {
         kind: RANKING.number,
         a: vec![0x31],
@@ -187,7 +187,7 @@ fn frames_of_two_texts(facts: &mut Facts) {
     let mut bytes = Vec::new();
     put_call(&call, &RANKING.shape, &mut bytes);
     let elements = [0x31, 0, 0, 0, 0x01, 0xAC, 0, 0, 0x32, 0, 0, 0];
-    facts.state("b stands behind a", bytes[32..] == elements);
+    facts.state("b stands after a", bytes[32..] == elements);
     facts.state(
         "nb is the last number",
         bytes[24..32] == [1, 0, 0, 0, 2, 0, 0, 0],
@@ -204,7 +204,7 @@ fn frames_of_two_texts(facts: &mut Facts) {
 }
 
 /// An image has a bound of its own, and may be answered in place of the lent buffer.
-fn frames_of_images(facts: &mut Facts) {
+fn wire_form_of_images(facts: &mut Facts) {
     let mut call = Call {
         kind: 19,
         room: 9,

@@ -120,7 +120,7 @@ fn groups_over_all_syllables(facts: &mut Facts) {
     let syllables: Vec<u32> = (0xAC00..=0xD7A3).collect();
     let groups: Vec<u32> = syllables.iter().flat_map(|&code| group_of(code)).collect();
     facts.state(
-        "groups turn one behind the other",
+        "groups turn one after the other",
         turned(&groups) == syllables,
     );
 }

@@ -81,7 +81,7 @@ pub fn group(text: &[u32]) -> Option<u32> {
     }
 }
 
-/// Groups are taken from the left, each behind the one before; all else is copied.
+/// Groups are taken from the left, each after the one before; all else is copied.
 pub fn turned(text: &[u32]) -> Vec<u32> {
     let mut turned = Vec::new();
     let mut rest = text;

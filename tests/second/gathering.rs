@@ -17,7 +17,7 @@ fn cluster_of_first(letters: &[u32], count: usize) -> Option<u32> {
     CLUSTERS.with(|clusters| clusters.get(first).copied())
 }
 
-/// From the left, going on behind each cluster: three letters before two, two before one.
+/// From the left, going on after each cluster: three letters before two, two before one.
 pub fn clustered(letters: &[u32]) -> Vec<u32> {
     let mut codes = Vec::with_capacity(letters.len());
     let mut place = 0;

@@ -1,5 +1,5 @@
-// The kind gathered form: what cases are made for it. They lean on letters that two clusters could take.
-// It defines no answers: those stand with the definition of the gathered form.
+// The kind gathered form: what cases are made for it. They lean on letters that two clusters could
+// take. It defines no answers: those stand with the definition of the gathered form.
 
 use crate::gathering::gathered_form;
 use crate::kinds::{no_calls, Kind};

@@ -1,4 +1,4 @@
-// The table of the kinds of call: for each its number, frames, definition, cases and words.
+// The table of the kinds of call: for each its number, wire form, definition, cases and words.
 // It defines no answers itself; a new kind is a module of its own and one line in TABLE.
 
 use crate::cases;
@@ -35,7 +35,7 @@ pub struct Kind {
     /// The few small cases that are stored as bytes. The first is a plain good call with elements
     /// where the kind has any: the stops are made from it.
     pub stored: fn() -> Vec<Call>,
-    /// Calls that break a bound which the kind's own row of the protocol names.
+    /// Calls that break a bound which the kind's own row of docs/CALLS.md names.
     pub forbidden: fn() -> Vec<Call>,
     /// The arguments in words.
     pub arguments: fn(&Call) -> String,
@@ -67,7 +67,7 @@ pub const TABLE: &[&Kind] = &[
     &label_writing_cases::RECORD_WRITING,
 ];
 
-/// The largest kind number that the protocol gives out; the next one is unknown.
+/// The largest kind number that docs/CALLS.md gives out; the next one is unknown.
 pub const LAST_KIND: u32 = 19;
 
 pub fn find(number: u32) -> Option<&'static Kind> {

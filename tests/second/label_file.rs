@@ -1,5 +1,5 @@
 // The definition of the label file: a record's layout, reading, writing, and the records' order.
-// It makes no cases and knows no frames; it aims at plainness, not at speed.
+// It makes no cases and knows no wire form; it aims at plainness, not at speed.
 
 use crate::joining::joined;
 use crate::letters::{check_length, check_room, Refusal};

@@ -32,7 +32,7 @@ pub fn changed(record: &[u8], place: usize, byte: u8) -> Vec<u8> {
 }
 
 /// 87 bytes of letters and the bytes given.
-fn behind_87(bytes: &[u8]) -> Vec<u8> {
+fn after_87(bytes: &[u8]) -> Vec<u8> {
     [&[b'A'; 87], bytes].concat()
 }
 
@@ -57,7 +57,7 @@ pub fn good_labels() -> Vec<Vec<u8>> {
         "\u{80}\u{7FF}\u{800}\u{FFFF}\u{10000}",
     ];
     labels.extend(texts.map(|text| text.as_bytes().to_vec()));
-    labels.push(behind_87(&[0]));
+    labels.push(after_87(&[0]));
     labels.push(repeated("\u{AC01}".as_bytes(), 87));
     labels.push(repeated("\u{1F6A2}".as_bytes(), 88));
     labels.push(vec![0; MOST_LABEL]);
@@ -92,8 +92,8 @@ pub fn ill_formed_labels() -> Vec<(Vec<u8>, usize)> {
         (&[0x80, 0xFF, 0xC2], 0),
     ];
     let mut labels = cases.map(|(label, place)| (label.to_vec(), place)).to_vec();
-    labels.push((behind_87(&[0x80]), 87));
-    labels.push((behind_87(&[0xC2]), 87));
+    labels.push((after_87(&[0x80]), 87));
+    labels.push((after_87(&[0xC2]), 87));
     labels
 }
 
@@ -140,7 +140,7 @@ fn with_cut_labels() -> Vec<(Vec<u8>, usize)> {
     records
 }
 
-/// A byte behind the label that is no zero, at each place; two of them, of which the first counts.
+/// A byte after the label that is no zero, at each place; two of them, of which the first counts.
 fn with_tails() -> Vec<(Vec<u8>, usize)> {
     let mut records = Vec::new();
     for length in [0, 1, 3, 87] {
@@ -285,19 +285,19 @@ pub fn labels_to_store() -> Vec<Vec<u8>> {
     labels.extend(ill_formed_labels().into_iter().map(|(label, _)| label));
     for count in [9, 10, 28, 29, 30] {
         let joined = vec![0xAC01; count];
-        for behind in ["", "A", "AB"] {
-            let behind = codes_of(behind);
+        for after in ["", "A", "AB"] {
+            let after = codes_of(after);
             let spelled = full_parts_of_text(&joined);
             let with_finals = repeated(&[0xAC00, 0x11A8], 2 * count);
-            labels.push(written(&[&joined[..], &behind].concat()));
-            labels.push(written(&[&spelled[..], &behind].concat()));
-            labels.push(written(&[&with_finals[..], &behind].concat()));
+            labels.push(written(&[&joined[..], &after].concat()));
+            labels.push(written(&[&spelled[..], &after].concat()));
+            labels.push(written(&[&with_finals[..], &after].concat()));
         }
     }
     // The last letter joins what stands right at the bound.
     labels.push([&[b'A'; 85], "\u{AC00}\u{11A8}".as_bytes()].concat());
     labels.push([&[b'A'; 86], "\u{AC00}\u{11A8}".as_bytes()].concat());
-    // Well-formed up to the bound and not behind it; joined, it would fit.
+    // Well-formed up to the bound and not after it; joined, it would fit.
     labels.push([&repeated("\u{AC00}\u{11A8}".as_bytes(), 90), &[0x80][..]].concat());
     for length in [
         89,

@@ -68,7 +68,7 @@ fn spelled_part(part: &str, staying: &str) -> Vec<String> {
     }
 }
 
-/// The letters of a name, one behind the other.
+/// The letters of a name, one after the other.
 pub fn spelled(name: &str) -> Vec<String> {
     let parts = name.split('-');
     parts.flat_map(|part| spelled_part(part, "")).collect()
@@ -100,7 +100,7 @@ fn letters_of(code: u32) -> Vec<u32> {
     vec![code]
 }
 
-/// The table: a row of three numbers for each code from 1100 to 11FF, with 0 behind the letters.
+/// The table: a row of three numbers for each code from 1100 to 11FF, with 0 after the letters.
 pub fn rows() -> Vec<[u32; 3]> {
     let row = |code| {
         let mut row = [0; 3];

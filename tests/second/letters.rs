@@ -1,5 +1,5 @@
 // The definitions of sorts, one step, full parts and refusals 1, 2 and 3, as the rules state them.
-// It makes no cases and knows no frames; it aims at plainness, not at speed.
+// It makes no cases and knows no wire form; it aims at plainness, not at speed.
 
 /// The constants of the Unicode Standard, chapter 3, conjoining jamo behaviour.
 pub const S_BASE: u32 = 0xAC00;

@@ -1,5 +1,5 @@
-// The lister, held to the definition in document 01: which texts it is run on, and what it prints of each.
-// It has no rule of its own for reading, joining or names (utf8, joining, naming).
+// The lister, held to the definition in document 01: which texts it is run on, and what it prints
+// of each. It has no rule of its own for reading, joining or names (utf8, joining, naming).
 
 use crate::joining::joined;
 use crate::letters::{is_syllable, LIMIT};
@@ -40,7 +40,8 @@ fn printed(text: &[u8]) -> Vec<u8> {
         .into_bytes()
 }
 
-/// A name in finished syllables and in letters, the paper's example, damage, and both sides of the limit.
+/// A name in finished syllables and in letters, the paper's example, damage, and both sides of the
+/// limit.
 fn chosen() -> Vec<Vec<u8>> {
     vec![
         Vec::new(),

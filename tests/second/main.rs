@@ -1,5 +1,5 @@
 // The second program: checks a proved Hangul library from outside, by definitions of its own.
-// It shares no code with the library and reads only what the program `calls` writes.
+// It shares no code with the library, and reads only what the programs under test write.
 
 mod appendix;
 mod byte_kinds;
@@ -87,7 +87,7 @@ fn usage() -> String {
     USAGE.to_string() + &names.collect::<Vec<String>>().join(",")
 }
 
-/// What was asked for behind the first words of a command line.
+/// What was asked for after the first words of a command line.
 struct Options {
     seed: u64,
     calls: usize,

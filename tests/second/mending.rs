@@ -1,5 +1,5 @@
 // The definition of mending: bytes are read as UTF-8, joined, and written as UTF-8 again.
-// It has no rule of its own beyond that order; it makes no cases and knows no frames.
+// It has no rule of its own beyond that order; it makes no cases and knows no wire form.
 
 use crate::joining::joined;
 use crate::utf8::{read, written};

@@ -54,14 +54,14 @@ fn spellings_in_long_texts() -> Vec<Call> {
     let mut calls = MENDED.in_long_texts(strayed());
     calls.extend(MENDED.in_long_texts(followed_by_letters()));
     for pieces in [finished(), spelled(), with_finals()] {
-        // One behind the other, each where another letter could have come.
+        // One after the other, each where another letter could have come.
         calls.extend(MENDED.one_by_one(&packed(pieces.clone())));
         calls.extend(MENDED.in_long_texts(pieces));
     }
     calls
 }
 
-/// What may stand between letters: any two bytes, and E1 with any two behind it.
+/// What may stand between letters: any two bytes, and E1 with any two after it.
 fn between_letters_in_long_texts() -> Vec<Call> {
     let mut calls = MENDED.in_long_texts(between_letters(&led_by_e1()));
     calls.extend(MENDED.in_long_texts(between_letters(&byte_texts::byte_pairs())));

@@ -128,7 +128,7 @@ fn mending_of_seeded_bytes(facts: &mut Facts) {
     facts.state("in most mixtures something joins", joining.count() > 5_000);
 }
 
-/// Before and behind an ill-formed byte each side is mended as if it stood alone. FF stands in no
+/// Before and after an ill-formed byte each side is mended as if it stood alone. FF stands in no
 /// sequence, so it is a subpart of its own whatever is next to it.
 fn nothing_joins_across(facts: &mut Facts) {
     let alone = |bytes: &[u8]| mended(bytes).bytes;

@@ -222,13 +222,13 @@ fn ascii_run(count: usize) -> Vec<u8> {
     (0x30..0x7F).take(count).collect()
 }
 
-/// Syllables that differ; the last is an LV, which a final behind them joins.
+/// Syllables that differ; the last is an LV, which a final after them joins.
 fn syllable_run(count: u32) -> Vec<u8> {
     let codes: Vec<u32> = (0..count).rev().map(|index| 0xAC00 + 587 * index).collect();
     written(&codes)
 }
 
-/// Each piece, twice, behind and before runs of ASCII of all lengths up to a few blocks of eight,
+/// Each piece, twice, after and before runs of ASCII of all lengths up to a few blocks of eight,
 /// at every alignment to a block of sixteen.
 pub fn beside_ascii() -> Vec<Vec<u8>> {
     let mut texts = Vec::new();
@@ -241,7 +241,7 @@ pub fn beside_ascii() -> Vec<Vec<u8>> {
     texts
 }
 
-/// The same with runs of syllables, behind a few bytes of ASCII.
+/// The same with runs of syllables, after a few bytes of ASCII.
 pub fn beside_syllables() -> Vec<Vec<u8>> {
     let mut texts = Vec::new();
     for piece in PLACED {

@@ -58,15 +58,15 @@ fn every_name() -> Vec<Vec<u8>> {
     (0xAC00..=0xD7A3).map(name_of).collect()
 }
 
-/// Names that go on to around the limit and to the protocol's bound, and what is no name from the
+/// Names that go on to around the limit and to the wire form's bound, and what is no name from the
 /// first byte on: 1 goes before 5, and no length makes a name.
 fn long() -> Vec<Call> {
     let name = name_of(0xAC01);
     let mut calls = Vec::new();
     for length in [LIMIT, LIMIT + 1, LIMIT - 1, MOST_ELEMENTS as usize] {
-        for behind in [0x00, 0x20, 0x47, 0xA5] {
+        for after in [0x00, 0x20, 0x47, 0xA5] {
             let mut bytes = name.clone();
-            bytes.resize(length, behind);
+            bytes.resize(length, after);
             calls.push(name_call(&bytes));
         }
         for pattern in [&name[..], PREFIX.as_bytes(), b"G", b" ", b"\0"] {
@@ -83,9 +83,9 @@ fn long() -> Vec<Call> {
 fn of_look_alike_lengths() -> Vec<Call> {
     let mut calls = Vec::new();
     for length in [24, 31, 32, 33, 64, 255, 256, 256 + 19, 512 + 19, 4096 + 19] {
-        for behind in [0x00, 0x20, 0x47] {
+        for after in [0x00, 0x20, 0x47] {
             let mut bytes = name_of(0xAC01);
-            bytes.resize(length, behind);
+            bytes.resize(length, after);
             calls.push(name_call(&bytes));
         }
     }
@@ -133,7 +133,7 @@ fn edges() -> Vec<Call> {
 }
 
 /// Every name, each without each of its letters and with every sort of fault; every string of up to
-/// three capitals behind the prefix; what fits but for one of the three strings. With the short
+/// three capitals after the prefix; what fits but for one of the three strings. With the short
 /// edges once more, since a comparison does not come to the end of them.
 fn every() -> Vec<Call> {
     let mut calls = calls_of(&every_name());

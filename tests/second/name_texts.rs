@@ -177,8 +177,8 @@ pub fn damaged_at_each_place(name: &[u8]) -> Vec<Vec<u8>> {
             names.push(with(name, place..place, &[byte]));
         }
     }
-    let behind = TEMPTING_BYTES.iter();
-    names.extend(behind.map(|&byte| [name, &[byte]].concat()));
+    let after = TEMPTING_BYTES.iter();
+    names.extend(after.map(|&byte| [name, &[byte]].concat()));
     names
 }
 
@@ -236,7 +236,7 @@ pub fn with_fault(random: &mut Random, name: &[u8], fault: usize) -> Vec<u8> {
     }
 }
 
-/// Strings of the three lists in any order and number, behind the prefix.
+/// Strings of the three lists in any order and number, after the prefix.
 fn strings_of_the_lists(random: &mut Random) -> Vec<u8> {
     let mut syllable = Vec::new();
     for _ in 0..random.below(5) {

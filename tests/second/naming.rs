@@ -1,5 +1,5 @@
 // The definitions of naming a syllable and of reading a name, with refusals 4 and 5, as the rules
-// state them. It makes no cases and knows no frames; it aims at plainness, not at speed.
+// state them. It makes no cases and knows no wire form; it aims at plainness, not at speed.
 
 use crate::letters::{check_length, check_room, is_syllable, Refusal, N_COUNT, S_BASE, T_COUNT};
 use std::collections::HashMap;

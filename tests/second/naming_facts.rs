@@ -135,10 +135,10 @@ fn names_as_published(facts: &mut Facts) {
     facts.state("the names are as published", sum == PUBLISHED_SUM);
 }
 
-/// The peak's and the final's string looked for behind the initial's.
-fn searched_behind(initial: u32, behind: &[u8]) -> Option<u32> {
+/// The peak's and the final's string looked for after the initial's.
+fn searched_after(initial: u32, after: &[u8]) -> Option<u32> {
     for (peak, string) in (0..).zip(PEAKS) {
-        if let Some(rest) = behind.strip_prefix(string.as_bytes()) {
+        if let Some(rest) = after.strip_prefix(string.as_bytes()) {
             let last = FINALS.iter().position(|string| string.as_bytes() == rest);
             if let Some(last) = last {
                 return Some(0xAC00 + initial * 588 + peak * 28 + last as u32);
@@ -153,8 +153,8 @@ fn searched_behind(initial: u32, behind: &[u8]) -> Option<u32> {
 fn searched(name: &[u8]) -> Option<u32> {
     let own = name.strip_prefix(PREFIX.as_bytes())?;
     for (initial, string) in (0..).zip(INITIALS) {
-        let behind = own.strip_prefix(string.as_bytes());
-        let found = behind.and_then(|behind| searched_behind(initial, behind));
+        let after = own.strip_prefix(string.as_bytes());
+        let found = after.and_then(|after| searched_after(initial, after));
         if found.is_some() {
             return found;
         }

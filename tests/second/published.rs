@@ -13,7 +13,7 @@ use crate::words;
 use std::collections::HashSet;
 use std::fs;
 
-/// What the first line of the file says behind its hash, before the version.
+/// What the first line of the file says after its hash, before the version.
 const TITLE: &str = "NormalizationTest-";
 const PART_ONE: &str = "@Part1";
 /// The last line of the file.
@@ -110,7 +110,7 @@ fn codes(column: &str) -> Option<Vec<u32>> {
     codes.ok().filter(|codes| !codes.is_empty())
 }
 
-/// Each column ends with a semicolon; behind the last stands nothing but a comment.
+/// Each column ends with a semicolon; after the last stands nothing but a comment.
 fn columns(line: &str) -> Option<Vec<Vec<u32>>> {
     let data = line.split('#').next()?;
     let fields: Vec<&str> = data.split(';').collect();

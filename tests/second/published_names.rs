@@ -12,7 +12,7 @@ use crate::wire::{elements_of, Width};
 use std::collections::HashSet;
 use std::fs;
 
-/// What the first line of the file says behind its hash, before the version.
+/// What the first line of the file says after its hash, before the version.
 const TITLE: &str = "DerivedName-";
 
 /// A code point and its name, and the line that says so.

@@ -1,5 +1,5 @@
-// The ranker, held to the definition in document 01: which images it is run on, and what it prints of each.
-// It has no rule of its own for records or their order (label_file, ranking).
+// The ranker, held to the definition in document 01: which images it is run on, and what it prints
+// of each. It has no rule of its own for records or their order (label_file, ranking).
 
 use crate::label_file::{answer_of_order, MOST_IMAGE, MOST_RECORDS};
 use crate::label_texts;

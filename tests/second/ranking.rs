@@ -1,5 +1,5 @@
 // The definition of ranking: the items of a joined text, their order, and the order of two labels.
-// It makes no cases and knows no frames; a number here is its digits, never a machine's integer.
+// It makes no cases and knows no wire form; a number here is its digits, never a machine's integer.
 
 use crate::joining::joined;
 use crate::letters::{check_codes, check_length, Refusal};

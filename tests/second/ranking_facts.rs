@@ -169,7 +169,7 @@ fn long_numbers(facts: &mut Facts) {
         ("the length counts", &other[1..], &long, Ordering::Less),
         ("zeros do not", &zeros, &[0x30], Ordering::Equal),
         ("zeros are before 1", &zeros, &[0x31], Ordering::Less),
-        ("zeros are behind nothing", &[], &zeros, Ordering::Less),
+        ("zeros are after nothing", &[], &zeros, Ordering::Less),
     ];
     for (fact, first, second, order) in known {
         let ranked = answer_of_texts(first, second) == Ok(order);

@@ -233,19 +233,19 @@ fn long_numbers(length: usize) -> Vec<Pair<u32>> {
     pairs
 }
 
-/// A long number within a label, with zeros before it, and with another one or more behind.
+/// A long number within a label, with zeros before it, and with another one or more after.
 fn numbers_within() -> Vec<Pair<u32>> {
     let run = digit_run(5_000);
-    let label = |front: &str, zeros: usize, behind: &str| {
+    let label = |front: &str, zeros: usize, after: &str| {
         let zeros = vec![0x30; zeros];
-        [codes_of(front), zeros, run.clone(), codes_of(behind)].concat()
+        [codes_of(front), zeros, run.clone(), codes_of(after)].concat()
     };
     let mut pairs = Vec::new();
-    for behind in ["", "0", "A", "B2", "B10", "\u{11A8}"] {
+    for after in ["", "0", "A", "B2", "B10", "\u{11A8}"] {
         for zeros in [0, 1, 300, 5_000] {
-            pairs.push((label("A", 0, "A"), label("A", zeros, behind)));
+            pairs.push((label("A", 0, "A"), label("A", zeros, after)));
             pairs.push((
-                label("\u{1100}\u{1161}", zeros, behind),
+                label("\u{1100}\u{1161}", zeros, after),
                 label("\u{AC00}", 0, "B10"),
             ));
         }
@@ -289,7 +289,7 @@ pub fn refused_pairs() -> Vec<Pair<u32>> {
                 .map(|label| with(label, place..place + 1, &[bad])),
         );
     }
-    // The bad one stands at the very end, or behind the limit.
+    // The bad one stands at the very end, or after the limit.
     for label in &good {
         labels.push(with(label, label.len() - 1..label.len(), &[0xFFFF_FFFF]));
     }
@@ -399,7 +399,7 @@ fn changed(random: &mut Random, label: &[u32]) -> Vec<u32> {
     }
 }
 
-/// Two labels, neither longer than the protocol's bound: longer ones would end the program.
+/// Two labels, neither longer than the wire form's bound: longer ones would end the program.
 fn bounded<Element>((mut first, mut second): Pair<Element>) -> Pair<Element> {
     first.truncate(MOST_ELEMENTS as usize);
     second.truncate(MOST_ELEMENTS as usize);

@@ -91,7 +91,7 @@ fn place_of(code: u32) -> Option<&'static str> {
     }
 }
 
-/// The rule of the table, and that a row is its code's letters or the code itself, zeros behind.
+/// The rule of the table, and that a row is its code's letters or the code itself, zeros after.
 fn rule_of_the_table(facts: &mut Facts) {
     let one_place = clusters().into_iter().all(|code| {
         let mut letters = simple_letters(code).into_iter();
@@ -108,10 +108,10 @@ fn rule_of_the_table(facts: &mut Facts) {
         .zip(rows())
         .filter(|&(code, row)| row == [code, 0, 0]);
     facts.state("165 rows are their code alone", whole.count() == 256 - 91);
-    let zeros_behind = rows()
+    let zeros_after = rows()
         .iter()
         .all(|row| row[0] != 0 && (row[1] != 0 || row[2] == 0));
-    facts.state("zeros stand behind letters", zeros_behind);
+    facts.state("zeros stand after letters", zeros_after);
 }
 
 /// The other way to the table: the appendix, with the rules' corrections, and no names.

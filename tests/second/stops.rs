@@ -19,12 +19,12 @@ struct Stop {
     expected: Vec<u8>,
 }
 
-/// Good calls around the bytes that stop: those before are answered, those behind are not.
+/// Good calls around the bytes that stop: those before are answered, those after are not.
 #[derive(Clone, Copy)]
 enum Around {
     Alone,
     Before,
-    BeforeAndBehind,
+    BeforeAndAfter,
 }
 
 fn call_bytes(call: &Call) -> Vec<u8> {
@@ -69,7 +69,7 @@ impl Stops<'_> {
             }
         }
         stop.input.extend_from_slice(stopping);
-        if matches!(around, Around::BeforeAndBehind) {
+        if matches!(around, Around::BeforeAndAfter) {
             for call in self.good_calls() {
                 stop.input.extend(call_bytes(&call));
             }
@@ -97,7 +97,7 @@ fn unknown_kinds(stops: &mut Stops) {
         kinds.push(kind.number.swap_bytes());
     }
     for kind in kinds {
-        for around in [Around::Alone, Around::Before, Around::BeforeAndBehind] {
+        for around in [Around::Alone, Around::Before, Around::BeforeAndAfter] {
             let call = with_number(&good_call(stops.kinds[0]), 0, kind);
             stops.add(format!("unknown kind {kind:X}"), around, &call);
         }
@@ -110,7 +110,7 @@ fn other_kinds(stops: &mut Stops) {
         if stops.kinds.iter().any(|known| known.number == kind.number) {
             continue;
         }
-        for around in [Around::Alone, Around::Before, Around::BeforeAndBehind] {
+        for around in [Around::Alone, Around::Before, Around::BeforeAndAfter] {
             let title = format!("{}, which the program has not", kind.name);
             stops.add(title, around, &call_bytes(&good_call(kind)));
         }
@@ -144,17 +144,17 @@ fn broken_bounds(stops: &mut Stops) {
         for (name, place, bound) in bounds_of(&kind.shape) {
             let title = format!("{} with {name} {}", kind.name, bound + 1);
             let bytes = one_over(kind, place, bound);
-            stops.add(title, Around::BeforeAndBehind, &bytes);
+            stops.add(title, Around::BeforeAndAfter, &bytes);
             // The last three are small again when multiplied by four in 32 bits, or negative.
             for number in [bound * 2 + 2, 0x4000_0001, 0x8000_0000, 0xFFFF_FFFF] {
                 let title = format!("{} with {name} {number:X}", kind.name);
                 let bytes = with_number(&good_call(kind), place, number);
-                stops.add(title, Around::BeforeAndBehind, &bytes);
+                stops.add(title, Around::BeforeAndAfter, &bytes);
             }
         }
         for call in (kind.forbidden)() {
             let title = format!("{} against its own bounds {:X?}", kind.name, call.header());
-            stops.add(title, Around::BeforeAndBehind, &call_bytes(&call));
+            stops.add(title, Around::BeforeAndAfter, &call_bytes(&call));
         }
     }
 }
@@ -223,7 +223,7 @@ fn all_stops(kinds: &[&'static Kind]) -> Vec<Stop> {
 }
 
 /// None where the program answered what it had to and ended. Its status is its own affair,
-/// since the protocol names none, but a signal is a crash.
+/// since docs/CALLS.md names none, but a signal is a crash.
 fn trouble_with(program: &Program, stop: &Stop) -> Option<String> {
     let most = stop.expected.len();
     let conversation = program.converse(
@@ -244,8 +244,8 @@ fn trouble_with(program: &Program, stop: &Stop) -> Option<String> {
     }
 }
 
-/// Tries all stops of a program that has these kinds. Gives their number, or reports on at most five
-/// that went wrong.
+/// Tries all stops of a program that has these kinds. Gives their number, or reports on at most
+/// five that went wrong.
 pub fn try_all(program: &Program, kinds: &[&'static Kind]) -> Result<usize, Vec<String>> {
     let stops = all_stops(kinds);
     let mut reports = Vec::new();

@@ -107,7 +107,7 @@ impl TextKind {
         calls
     }
 
-    /// Texts around the limit and at the protocol's bound, of one pattern throughout and mixed.
+    /// Texts around the limit and at the wire form's bound, of one pattern throughout and mixed.
     pub fn long_good(&self) -> Vec<Call> {
         let mut random = Random::new(3);
         let mut calls = Vec::new();
@@ -138,7 +138,7 @@ impl TextKind {
     }
 }
 
-/// The pieces one behind the other, in texts as long as the limit allows; no piece is cut.
+/// The pieces one after the other, in texts as long as the limit allows; no piece is cut.
 pub fn packed<Element>(pieces: impl IntoIterator<Item = Vec<Element>>) -> Vec<Vec<Element>> {
     let mut texts = Vec::new();
     let mut text: Vec<Element> = Vec::new();

@@ -84,7 +84,7 @@ fn syllable_boundaries() -> Vec<u32> {
     codes
 }
 
-/// Every LV, with the syllable before it and behind it.
+/// Every LV, with the syllable before it and after it.
 pub fn row_neighbours() -> Vec<u32> {
     let rows = (0xAC00..=0xD7A3).step_by(28);
     rows.flat_map(|code| [code - 1, code, code + 1]).collect()
@@ -274,7 +274,7 @@ fn joining_piece(random: &mut Random) -> Vec<u32> {
         4 => vec![any_lv(random), last, last],
         5 => vec![syllable(random), last],
         6 => {
-            // Behind the first initial or peak, where a joiner has something open.
+            // After the first initial or peak, where a joiner has something open.
             letters.insert(random.pick(&[1, 2]), random.pick(&PARTING));
             letters
         }
@@ -312,7 +312,7 @@ pub enum Spoiling {
     Middle,
     Several,
     All,
-    BehindLimit,
+    AfterLimit,
 }
 
 pub const SPOILINGS: [Spoiling; 6] = [
@@ -321,10 +321,10 @@ pub const SPOILINGS: [Spoiling; 6] = [
     Spoiling::Middle,
     Spoiling::Several,
     Spoiling::All,
-    Spoiling::BehindLimit,
+    Spoiling::AfterLimit,
 ];
 
-/// Puts bad code points in. An empty text stays, and BehindLimit changes only longer texts.
+/// Puts bad code points in. An empty text stays, and AfterLimit changes only longer texts.
 pub fn spoil(random: &mut Random, text: &mut [u32], spoiling: Spoiling) {
     let length = text.len();
     if length == 0 {
@@ -336,7 +336,7 @@ pub fn spoil(random: &mut Random, text: &mut [u32], spoiling: Spoiling) {
         Spoiling::Middle => vec![random.below(length)],
         Spoiling::Several => (0..4).map(|_| random.below(length)).collect(),
         Spoiling::All => (0..length).collect(),
-        Spoiling::BehindLimit => (LIMIT..length).take(1).collect(),
+        Spoiling::AfterLimit => (LIMIT..length).take(1).collect(),
     };
     for place in places {
         text[place] = bad_code(random);
@@ -384,7 +384,7 @@ pub fn room(random: &mut Random, needed: usize, most: usize) -> u32 {
     bounded_room(room)
 }
 
-/// Rooms over the protocol's bound would end the program, so they are cut to it.
+/// Rooms over the wire form's bound would end the program, so they are cut to it.
 pub fn bounded_room(room: usize) -> u32 {
     room.min(MOST_ROOM as usize) as u32
 }

@@ -1,5 +1,5 @@
 // The definitions of reading and writing UTF-8, from the Unicode Standard, chapter 3.
-// It makes no cases and knows no frames; it aims at plainness, not at speed.
+// It makes no cases and knows no wire form; it aims at plainness, not at speed.
 
 use crate::letters::{check_length, check_room, Refusal};
 
@@ -22,7 +22,7 @@ const fn row(first: u32, last: u32, bytes: &'static [Range]) -> Row {
     }
 }
 
-/// Table 3-7, well-formed UTF-8 byte sequences. Only second bytes have ranges of their own, behind
+/// Table 3-7, well-formed UTF-8 byte sequences. Only second bytes have ranges of their own, after
 /// E0, ED, F0 and F4; they shut out overlong forms, surrogates and what lies beyond 10FFFF.
 #[rustfmt::skip]
 pub const TABLE_3_7: [Row; 9] = [
@@ -124,7 +124,7 @@ pub fn first_ill_formed(bytes: &[u8]) -> Option<usize> {
     None
 }
 
-/// A byte behind the first, with the six bits of the code point from the given one on.
+/// A byte after the first, with the six bits of the code point from the given one on.
 fn following(code: u32, shift: u32) -> u8 {
     0b1000_0000 | ((code >> shift) & 0b0011_1111) as u8
 }

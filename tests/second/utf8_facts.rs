@@ -142,7 +142,7 @@ fn every_scalar_value(facts: &mut Facts) {
     facts.state("the scalar values are those not bad", none_bad.eq(values));
 }
 
-/// How many errors std finds when it goes on behind each; it too takes maximal subparts.
+/// How many errors std finds when it goes on after each; it too takes maximal subparts.
 fn errors_of_std(mut bytes: &[u8]) -> u32 {
     let mut count = 0;
     while let Err(error) = std::str::from_utf8(bytes) {
@@ -223,7 +223,7 @@ fn seeded_readings_as_std_does(facts: &mut Facts) {
     facts.state("true FFFD stand beside ill-formed bytes", uncounted);
 }
 
-/// Behind whatever bytes, a good character is read: no lead byte is eaten.
+/// After whatever bytes, a good character is read: no lead byte is eaten.
 fn good_characters_are_kept(facts: &mut Facts) {
     let sequences = byte_texts::boundary_sequences(3);
     for code in [0x41, 0xF1, 0xAC01, 0x1_F6A2, REPLACEMENT] {
@@ -232,7 +232,7 @@ fn good_characters_are_kept(facts: &mut Facts) {
             alone.codes.push(code);
             read(&[&bytes[..], &written_code(code)].concat()) == alone
         });
-        facts.state(&format!("{code:04X} is kept behind any bytes"), kept);
+        facts.state(&format!("{code:04X} is kept after any bytes"), kept);
     }
 }
 

@@ -1,11 +1,11 @@
-// The frames of a call and of an answer, as bytes low byte first, written and read.
-// It does not know what a kind of call means and starts no program.
+// The wire form of a call and of an answer (docs/CALLS.md), as bytes low byte first, written and
+// read. It does not know what a kind of call means and starts no program.
 
 /// Bytes of the eight numbers that begin a call.
 pub const CALL_HEADER: usize = 32;
 /// Bytes of the four numbers that begin an answer.
 pub const ANSWER_HEADER: usize = 16;
-/// The protocol's bounds; a call over one of them ends the program.
+/// The wire form's bounds; a call over one of them ends the program.
 pub const MOST_ELEMENTS: u32 = 20_000;
 pub const MOST_IMAGE_BYTES: u32 = 66_000;
 pub const MOST_ROOM: u32 = 120_000;

@@ -136,8 +136,8 @@ fn with_subparts(answer: &Answer, width: Width) -> String {
 
 /// The answer of a kind that fills the lent buffer with a name.
 pub fn name_in_buffer(_call: &Call, answer: &Answer) -> String {
-    let (front, behind) = answer.lent.split_at(written_length(answer));
-    let (name, left) = (quoted(front), left_behind(behind, Width::Byte));
+    let (front, after) = answer.lent.split_at(written_length(answer));
+    let (name, left) = (quoted(front), left_after(after, Width::Byte));
     let rest = unexpected_values(answer.second, answer.third);
     format!("{}: {name} {left}{rest}", answer.value)
 }
@@ -189,24 +189,24 @@ fn written_length(answer: &Answer) -> usize {
     (answer.value as usize).min(answer.lent.len())
 }
 
-/// How many elements stand behind the answer, and whether they were left as they were.
-fn left_behind(behind: &[u32], width: Width) -> String {
-    let written = behind
+/// How many elements stand after the answer, and whether they were left as they were.
+fn left_after(after: &[u32], width: Width) -> String {
+    let written = after
         .iter()
         .filter(|&&number| number != width.untouched())
         .count();
     let change = match written {
         0 => String::new(),
-        count => format!(", of them {count} CHANGED: {}", list(behind, width)),
+        count => format!(", of them {count} CHANGED: {}", list(after, width)),
     };
-    format!("({} left{change})", behind.len())
+    format!("({} left{change})", after.len())
 }
 
-/// The length, the front of the buffer, and how many elements behind it were left as they were.
+/// The length, the front of the buffer, and how many elements after it were left as they were.
 pub fn in_buffer(answer: &Answer, width: Width) -> String {
-    let (front, behind) = answer.lent.split_at(written_length(answer));
+    let (front, after) = answer.lent.split_at(written_length(answer));
     let colon = if front.is_empty() { "" } else { ": " };
-    let (front, left) = (list(front, width), left_behind(behind, width));
+    let (front, left) = (list(front, width), left_after(after, width));
     format!("{}{colon}{front} {left}", answer.value)
 }
 
