@@ -39,12 +39,15 @@ module _ (text : List ℕ) {at : ℕ} {out₀ : List ℕ} {k₀ : ℕ} where
   copying-none = record { done = []; stands = refl; wrote = wrote-none refl }
 
   module _ {read : ℕ} {out : List ℕ} {k : ℕ} (c : Copying text at read out₀ k₀ out k) where
-    pub copying-index : at ≤ read → read ≤ length text → k ≡ k₀ + (read - at)
-    copying-index h l =
-        omega (arith, c .wrote .after, simp length-append at (ap length (c .stands)), length-drop at text, length-drop read text)
-
     pub copying-length : length out ≡ length out₀
     copying-length = wrote-length (c .wrote)
+
+    -- there is room for the next, as far as there was for all up to `to`
+    pub copying-room : {to : ℕ} → at ≤ read → read < to → to ≤ length text → k₀ + (to - at) ≤ length out₀ → k < length out
+    copying-room h l t r =
+        let n : k ≡ k₀ + (read - at) =
+        omega (arith, c .wrote .after, simp length-append at (ap length (c .stands)), length-drop at text, length-drop read text) in
+        omega (arith, n, copying-length)
 
     pub copying-more : read < length text → Copying text at (read + 1) out₀ k₀ (set out k (getD text read 0)) (k + 1)
     copying-more h = record {

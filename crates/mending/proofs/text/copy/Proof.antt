@@ -2,7 +2,7 @@
 -- other.
 use native.Mathlib.Omega.{arith}
 use Prim.Native.Nat.{_≤_, _-_}
-use Rattle.mending.proofs.Turns.{Copying, copying-none, copying-index, copying-length, copying-more, copying-all}
+use Rattle.mending.proofs.Turns.{Copying, copying-none, copying-length, copying-room, copying-more, copying-all}
 use borrow.Author.Needs.{needs}
 use Rattle.mending.proofs.text.copy.Statement.{statement}
 use Rattle.mending.proofs.text.copy.Tie as tie
@@ -21,28 +21,18 @@ shared-slice-read-out c = search needs
 
 slice-write-out : tie.Need-slice-write-out Inv-loop μ-loop
 slice-write-out c =
-    omega (
-      arith,
-      copying-index _ (c .before .before .loop .inv .2) (c .before .before .loop .inv .0)
-          (omega (arith, c .before .loop-test .taken, c .before .before .before .pre .1 .0)),
-      copying-length _ (c .before .before .loop .inv .2),
-      c .before .loop-test .taken,
-      c .before .before .before .pre .1 .1,
-    )
+    let start = c .before .before .before in
+    let loop = c .before .before .loop .inv in
+    copying-room _ (loop .2) (loop .0) (c .before .loop-test .taken) (start .pre .1 .0) (start .pre .1 .1)
 
 add-read : tie.Need-add-read Inv-loop μ-loop
 add-read c = search needs
 
 add-written : tie.Need-add-written Inv-loop μ-loop
 add-written c =
-    omega (
-      arith,
-      copying-index _ (c .before .before .loop .inv .2) (c .before .before .loop .inv .0)
-          (omega (arith, c .before .loop-test .taken, c .before .before .before .pre .1 .0)),
-      copying-length _ (c .before .before .loop .inv .2),
-      c .before .loop-test .taken,
-      c .before .before .before .pre .1 .1,
-    )
+    let start = c .before .before .before in
+    let loop = c .before .before .loop .inv in
+    omega (arith, copying-length _ (loop .2), copying-room _ (loop .2) (loop .0) (c .before .loop-test .taken) (start .pre .1 .0) (start .pre .1 .1))
 
 loop-less : tie.Need-loop-less Inv-loop μ-loop
 loop-less c = search needs
