@@ -1,7 +1,7 @@
 -- Laws of gathered form. It has: a text and its clusters fall into the same groups (`groups`), so
 -- that they are no longer and have the same simple form; A GATHERED TEXT HAS THE SIMPLE FORM IT
 -- CAME FROM (`simple-gathered`), gathering it again changes nothing, and two texts gather to the
--- same exactly where their simple forms are the same; how long it is (`gathered-most`); a code that
+-- same exactly when their simple forms are the same; how long it is (`gathered-most`); a code that
 -- has no place is a place to cut (`clustered-cut`); the machine that gathers letter by letter gives
 -- the same (`from-gatherer`, `gathered-coded`); cases of document 01.
 use mathlib.Core.Path.{_≡_, refl, sym, _∙_, ap}
@@ -116,7 +116,7 @@ pub simple-gathered : (x : List ℕ) → simple (gathered x) ≡ simple x
 unfolding gathered
 simple-gathered x = simple-of-joined (clustered (simple x)) ∙ simple-clustered (simple x) ∙ simple-simple x
 
--- two texts gather to the same exactly where their simple forms are the same
+-- two texts gather to the same exactly when their simple forms are the same
 pub same-gathered : (x y : List ℕ) → simple x ≡ simple y → gathered x ≡ gathered y
 unfolding gathered
 same-gathered x y e = ap (λ (l : List ℕ). join (clustered l)) e

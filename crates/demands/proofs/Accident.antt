@@ -15,7 +15,7 @@ use Rattle.utf8.proofs.Round.{encodes8}
 use Rattle.mending.proofs.Same.{same-call}
 use Rattle.demands.specs.Accident.{Mended, OneBoat, SameBoat, TwoBoats}
 
--- two calls that are done wrote the same exactly where what was read has the same full parts
+-- two calls that are done wrote the same exactly when what was read has the same full parts
 same-written : (s t : List ℕ) {v w : List ℕ} → Mended s v → Mended t w → (v ≡ w) ↔ (fullParts (readText s) ≡ fullParts (readText t))
 same-written s t m n = rw (m .is, n .is) (same-call encodes8 s t (m .call) (n .call))
 

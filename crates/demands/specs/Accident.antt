@@ -1,9 +1,9 @@
 -- The accident: "The name had reached us once as finished syllables and once as single letters. On
 -- paper the two look alike; our tool took them for two boats. A visiting yacht was sent to the
 -- berth and found it full." On document 01's repertoire what mending makes of two names is one and
--- the same text of bytes exactly if the Unicode Standard calls them canonically equivalent
--- (D70); of whatever characters, only there. Statements over any two calls of mending that are
--- done; nothing is proved here.
+-- the same text of bytes exactly when the Unicode Standard calls them canonically equivalent (D70);
+-- of whatever characters, only then. Statements over any two calls of mending that are done;
+-- nothing is proved here.
 use mathlib.Core.Path.{_≡_}
 use mathlib.Core.Bool.{false}
 use mathlib.Core.Logic.{_↔_}
@@ -35,7 +35,7 @@ OneBoat =
     (name v w : List ℕ) → All (λ c. bad c ≡ false) name
     → Mended (writeText name) v → Mended (writeText (fullParts name)) w → v ≡ w
 
--- THE SAME BOAT: on document 01's repertoire two names are mended to the same bytes exactly if
+-- THE SAME BOAT: on document 01's repertoire two names are mended to the same bytes exactly when
 -- they are canonically equivalent, for every character database that says of the repertoire what
 -- the Unicode Character Database says
 abbrev pub SameBoat : Type 0

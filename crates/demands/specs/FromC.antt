@@ -1,8 +1,8 @@
 -- The demands over the calls that the drawing program makes, from C. What such a call does if it
 -- refuses nothing is what the call below it does (`MendedFromC`, `NamedFromC`, `ReadFromC`), so
 -- that what specs/Accident, Demand2 and Demand3 say of that call holds of it; and what the header
--- promises beside that: one boat, the count, a name read back, an order to sort by. Statements over any results that the
--- contracts of the calls for C admit; nothing is proved here.
+-- promises beside that: one boat, the count, a name read back, an order to sort by. Statements over
+-- any results that the contracts of the calls for C admit; nothing is proved here.
 use mathlib.Core.Path.{_≡_}
 use mathlib.Core.Bool.{false}
 use mathlib.Core.List.{List}

@@ -84,7 +84,7 @@ module _ {A B : Type 0} (e : Encoding A) (m : Transformation B) where
         at = rw (h .after) (k .at);
       }
 
-  -- there is nothing after it exactly where all that is read is soft
+  -- there is nothing after it exactly when all that is read is soft
   pub ending-found : (z : List A) → (ending e m z ≡ []) ↔ All (IsSoft e m) (pieces (e .kind) (seek (e .lead) z))
   ending-found z = (nothing, (λ p. ap unitsOf (all-skipped p)))
     where

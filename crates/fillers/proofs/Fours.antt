@@ -19,7 +19,7 @@ use Rattle.fillers.specs.Groups.{asInitial, asPeak, asFinal, meaningOf, 
 use Rattle.fillers.specs.Inner.{groupAt, syllableIn}
 use Rattle.fillers.proofs.Letters.{initial-no-filler, peak-no-filler, initial-below, peak-below, final-below, below-some}
 
--- ---- a group exactly where all four fit
+-- ---- a group exactly when all four fit
 
 -- d, a, b, c are a group and s is its syllable, in document 01's words
 pub record Group (d a b c s : ℕ) : Type 0 where

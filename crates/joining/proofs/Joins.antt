@@ -228,7 +228,7 @@ parts-join x = grouped-parts (neighbours x)
 pub join-join : (x : List ℕ) → join (join x) ≡ join x
 join-join x = sym (join-parts (join x)) ∙ ap join (parts-join x) ∙ join-parts x
 
--- two texts join to the same exactly where they have the same full parts
+-- two texts join to the same exactly when they have the same full parts
 pub same-join : (x y : List ℕ) → join x ≡ join y → fullParts x ≡ fullParts y
 same-join x y e = sym (parts-join x) ∙ ap fullParts e ∙ parts-join y
 

@@ -1,4 +1,4 @@
--- When two texts are mended to the same, in any encoding form: exactly where what they read as has
+-- When two texts are mended to the same, in any encoding form: exactly when what they read as has
 -- the same full parts. Over lists (`same-mended`), and over a call's contract (`same-call`).
 use mathlib.Core.Path.{_≡_, ap}
 use mathlib.Core.Logic.{_↔_}

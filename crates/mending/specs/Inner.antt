@@ -173,7 +173,7 @@ pub record Low (a b c d e f g h : ℕ) : Type 0 where
 abbrev pub tailOf : ℕ → ℕ
 tailOf c = (0x80 + c / 64 % 64) * 0x100 + (0x80 + c % 64)
 
--- what begins at an index is a letter exactly if r is that letter's tail
+-- what begins at an index is a letter exactly when r is that letter's tail
 pub record Tail (text : List ℕ) (at r : ℕ) : Type 0 where
   pub is : (c : ℕ) → 0x1100 ≤ c → c ≤ 0x11FF → r ≡ tailOf c → takenFrom (pieces kindOf (drop at text)) ≡ goodOf c 3
   pub only : (c : ℕ) → 0x1100 ≤ c → c ≤ 0x11FF → takenFrom (pieces kindOf (drop at text)) .code ≡ c → r ≡ tailOf c

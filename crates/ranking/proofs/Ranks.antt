@@ -93,7 +93,7 @@ pub rank-self : (x : List ℕ) → rank x x ≡ Equal
 unfolding rank
 rank-self x = items-self (items (join x))
 
--- ONE ANSWER TELLS BOTH WAYS: the second stands after the first exactly where the first stands
+-- ONE ANSWER TELLS BOTH WAYS: the second stands after the first exactly when the first stands
 -- before the second
 pub rank-swapped : (x y : List ℕ) → rank y x ≡ swapped (rank x y)
 unfolding rank

@@ -1,5 +1,5 @@
 -- `names::read::ends` meets its contract: of two strings of one length, the one begins with the
--- other exactly if they are the same.
+-- other exactly when they are the same.
 use Rattle.names.proofs.Search.{ends-other, ends-as}
 use borrow.Author.Needs.{needs}
 use Rattle.names.proofs.read.ends.Statement.{statement}

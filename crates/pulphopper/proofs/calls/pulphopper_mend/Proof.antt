@@ -1,5 +1,5 @@
--- `pulphopper::calls::pulphopper_mend` meets its contract: what mending answers, in the three numbers
--- of an answer.
+-- `pulphopper::calls::pulphopper_mend` meets its contract: what mending answers, in the three
+-- numbers of an answer.
 use Rattle.pulphopper.proofs.Replies.{mends-done, mends-few, mends-refused}
 use native.Mathlib.Omega.{arith}
 use borrow.Author.Needs.{needs}

@@ -1,5 +1,5 @@
--- `pulphopper::calls::pulphopper_name` meets its contract: what naming answers, in the three numbers
--- of an answer.
+-- `pulphopper::calls::pulphopper_name` meets its contract: what naming answers, in the three
+-- numbers of an answer.
 use Rattle.pulphopper.proofs.Replies.{names-done, names-refused}
 use borrow.Author.Needs.{needs}
 use Rattle.pulphopper.proofs.calls.pulphopper_name.Statement.{statement}

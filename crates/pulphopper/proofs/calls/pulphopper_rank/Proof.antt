@@ -1,5 +1,5 @@
--- `pulphopper::calls::pulphopper_rank` meets its contract: what ranking answers, in the three numbers
--- of an answer.
+-- `pulphopper::calls::pulphopper_rank` meets its contract: what ranking answers, in the three
+-- numbers of an answer.
 use Rattle.pulphopper.proofs.Replies.{ranks-done, ranks-refused}
 use borrow.Author.Needs.{needs}
 use Rattle.pulphopper.proofs.calls.pulphopper_rank.Statement.{statement}
