@@ -27,25 +27,30 @@ pub enum Sorted {
     Refused(Refusal),
 }
 
-// The sort of any number: what is no code point is other.
+// The sort of any number: what is no code point is other. Plain text first, then the syllables, then
+// the letters. The order of a match's arms does not decide the order of its tests, so the letters
+// are a match of their own.
 pub fn sort_of(code: u32) -> Sort
     ensures { λ r. ⌜ r ≡ sortOf code ⌝ }
 {
     match code {
-        0x1100..=0x1112 => Sort::ModernInitial,
-        0x1113..=0x1159 => Sort::OldInitial,
-        0x115F => Sort::InitialFiller,
-        0x1160 => Sort::PeakFiller,
-        0x1161..=0x1175 => Sort::ModernPeak,
-        0x1176..=0x11A2 => Sort::OldPeak,
-        0x11A8..=0x11C2 => Sort::ModernFinal,
-        0x11C3..=0x11F9 => Sort::OldFinal,
+        0..=0x10FF => Sort::Other,
         0xAC00..=0xD7A3 => if (code - 0xAC00) % 28 == 0 {
             Sort::Lv
         } else {
             Sort::Lvt
         },
-        _ => Sort::Other,
+        _ => match code {
+            0x1100..=0x1112 => Sort::ModernInitial,
+            0x1113..=0x1159 => Sort::OldInitial,
+            0x115F => Sort::InitialFiller,
+            0x1160 => Sort::PeakFiller,
+            0x1161..=0x1175 => Sort::ModernPeak,
+            0x1176..=0x11A2 => Sort::OldPeak,
+            0x11A8..=0x11C2 => Sort::ModernFinal,
+            0x11C3..=0x11F9 => Sort::OldFinal,
+            _ => Sort::Other,
+        },
     }
 }
 
