@@ -27,9 +27,9 @@ pub enum Sorted {
     Refused(Refusal),
 }
 
-// The sort of any number: what is no code point is other. Plain text first, then the syllables, then
-// the letters. The order of a match's arms does not decide the order of its tests, so the letters
-// are a match of their own.
+// The sort of any number: what is no code point is other. It tests for plain text first, then for
+// the syllables, then for the letters. The order of a match's arms does not decide the order of its
+// tests, so the letters are a match of their own.
 pub fn sort_of(code: u32) -> Sort
     ensures { λ r. ⌜ r ≡ sortOf code ⌝ }
 {
