@@ -13,6 +13,9 @@ import unicodedata
 
 SIZE = 16000
 RECORDS = 682
+UNITS = "utf-16-le"
+# how many units each input of units has: bench/report.py divides by these
+SIZES = {"u-ascii": 16000, "u-nfc": 5334, "u-nfd": 5338, "u-mixed": 10168, "u-damaged": 10847, "u-short": 10198}
 
 
 class Random:
@@ -52,11 +55,11 @@ def joins_as_nfc(text):
     return join(text) == unicodedata.normalize("NFC", text)
 
 
-def mend(text):
-    """Python reads each ill-formed maximal subpart as one FFFD."""
-    read = text.decode("utf-8", "replace")
+def mend(text, form="utf-8"):
+    """Python reads each ill-formed maximal subpart as one FFFD, and each unpaired surrogate."""
+    read = text.decode(form, "replace")
     assert joins_as_nfc(read), "a text on which NFC and joining differ"
-    return join(read).encode()
+    return join(read).encode(form)
 
 
 def items(label):
@@ -176,6 +179,21 @@ def damaged():
             return bytes(text[:SIZE])
 
 
+def in_units(text):
+    return text.decode("utf-8", "replace").encode(UNITS)
+
+
+def damaged_units(text):
+    """The text with a pair before a unit with probability 1/20, and then each unit lost with
+    probability 1/32."""
+    between, lost, units = Random(10), Random(11), []
+    for unit, in struct.iter_unpack("<H", in_units(text)):
+        if not between.below(20):
+            units += [0xD83D, 0xDE00 + between.below(64)]
+        units.append(unit)
+    return b"".join(struct.pack("<H", unit) for unit in units if lost.below(32))
+
+
 def short_labels():
     random, labels, left = Random(5), [], SIZE
     while left:
@@ -207,6 +225,22 @@ def odd_texts():
     while len(texts) < 1000:
         text = b"".join(random.pick(PIECES[:20] if random.below(2) else PIECES) for _ in range(1 + random.below(12)))
         if joins_as_nfc(text.decode("utf-8", "replace")):
+            texts.append(text)
+    return texts
+
+
+PIECES_OF_UNITS = [bytes.fromhex(digits).decode("utf-16-be", "surrogatepass").encode(UNITS, "surrogatepass") for digits in """
+    1100 1112 1113 115F 1160 1161 1175 1176 11A7 11A8 11C2 11C3 AC00 AC01 AC1C D7A3 D788 FFFD 302E 302F
+    0041 0020 0030 007A 00E9 03A9 3142 4E00 FEFF FFFF D7FF E000 D83DDEA2 DBFFDFFF D800DC00 D804DD61
+    D800 D83D DBFF DC00 DEA2 DFFF""".split()]
+
+
+def odd_texts_of_units():
+    """Short records of letters, syllables, pairs and unpaired surrogates, for agreement only."""
+    random, texts = Random(12), []
+    while len(texts) < 1000:
+        text = b"".join(random.pick(PIECES_OF_UNITS[:20] if random.below(2) else PIECES_OF_UNITS) for _ in range(1 + random.below(12)))
+        if joins_as_nfc(text.decode(UNITS, "replace")):
             texts.append(text)
     return texts
 
@@ -262,6 +296,17 @@ def write_texts(folder):
     for name, records in texts.items():
         assert name == "odd" or sum(map(len, records)) == SIZE, name
         write(folder, name, records, [counted(mend(text)) for text in records])
+    write_units(folder, texts)
+
+
+def write_units(folder, texts):
+    """The same texts in units, but for the damaged and the odd ones."""
+    units = {"u-" + name: list(map(in_units, texts[name])) for name in ("ascii", "nfc", "nfd", "mixed", "short")}
+    units["u-damaged"] = [damaged_units(texts["mixed"][0])]
+    units["u-odd"] = odd_texts_of_units()
+    for name, records in units.items():
+        assert name == "u-odd" or sum(map(len, records)) == 2 * SIZES[name], name
+        write(folder, name, records, [counted(mend(text, UNITS)) for text in records])
 
 
 def write_names(folder):

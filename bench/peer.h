@@ -20,6 +20,9 @@ struct peer {
     int (*rank)(const uint8_t *first, size_t first_length, const uint8_t *second, size_t second_length);
     /* The image of a label file in, the ranker's lines out. Bytes written, or -1. */
     long (*sort)(const uint8_t *image, size_t length, uint8_t *out, size_t room);
+    /* UTF-16 in, joined UTF-16 out; lengths and room are in units. Units written, or -1 when it
+       refuses. */
+    long (*units)(const uint16_t *text, size_t length, uint16_t *out, size_t room);
 };
 
 extern const struct peer peer;

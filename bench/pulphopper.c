@@ -29,4 +29,9 @@ static int rank(const uint8_t *first, size_t first_length, const uint8_t *second
     return (int)value_of(pulphopper_rank(first, first_length, second, second_length)) - 1;
 }
 
-const struct peer peer = { 0, mend, name, read, rank, 0 };
+static long units(const uint16_t *text, size_t length, uint16_t *out, size_t room)
+{
+    return value_of(pulphopper_mend_units(text, length, out, room));
+}
+
+const struct peer peer = { 0, mend, name, read, rank, 0, units };

@@ -24,6 +24,15 @@ MENDING = [
     Row("short", "labels of 8 to 40 bytes", "mend", "short", 16000, 8, 40),
     Row("tight", "mixed, no room to spare", "tight", "mixed", 16000, 8, 40),
 ]
+UNITS = [
+    Row("u-ascii", "ASCII, in units", "units", "u-ascii", 16000, 8, 40),
+    Row("u-nfc", "syllables (NFC), in units", "units", "u-nfc", 5334, 8, 40),
+    Row("u-nfd", "letters (NFD), in units", "units", "u-nfd", 5338, 8, 40),
+    Row("u-mixed", "mixed labels, in units", "units", "u-mixed", 10168, 8, 40),
+    Row("u-damaged", "with pairs and units lost", "units", "u-damaged", 10847, 8, 40),
+    Row("u-short", "labels of 4 to 24 units", "units", "u-short", 10198, 8, 40),
+    Row("u-tight", "units, no room to spare", "tight-units", "u-mixed", 10168, 8, 40),
+]
 CALLS = [
     Row("name", "name a syllable", "name", "codes", 11172, 2, 6),
     Row("read", "read a name", "read", "names", 11172, 1, 2),
@@ -32,6 +41,7 @@ CALLS = [
 ]
 # for agreement only: nothing is counted
 ODD = Row("odd", "right, of 1,000 odd texts", "mend", "odd", 1, 0, 0)
+ODD_UNITS = Row("u-odd", "right, of 1,000 odd texts", "units", "u-odd", 1, 0, 0)
 # it does only part of the work: its answers are not judged
 PART = {"memcpy"}
 
@@ -61,7 +71,7 @@ def agree(job, out, want):
     load = numbers if job in ("read", "rank") else records
     answers, wanted = (load(open(path, "rb").read()) for path in (out, want))
     same = sum(a == b for a, b in zip(answers, wanted))
-    refused = len(answers) != len(wanted) or (job in ("mend", "tight") and None in answers)
+    refused = len(answers) != len(wanted) or (job in ("mend", "tight", "units", "tight-units") and None in answers)
     print("same" if answers == wanted else "refused" if refused else "differs", "%d/%d" % (same, len(wanted)))
 
 
@@ -83,14 +93,14 @@ class Results:
         return self.words(row, column, "agree") or ["refused", "0/0"]
 
     def count(self, row, column):
-        """Instructions for each byte or call, or None."""
+        """Instructions for each byte, unit or call, or None."""
         few, many = self.words(row, column, "few"), self.words(row, column, "many")
         if self.verdict(row, column)[0] == "refused" or not few or not many:
             return None
         return (int(many[0]) - int(few[0])) / (row.many - row.few) / row.per
 
     def cell(self, row, column):
-        if row is ODD:
+        if row in (ODD, ODD_UNITS):
             right = int(self.verdict(row, column)[1].split("/")[0])
             return "-" if column in PART or not right else "{:,}".format(right)
         count = self.count(row, column)
@@ -115,7 +125,7 @@ def targets_of(path):
 
 def check(folder, path):
     results, targets, over = Results(folder), targets_of(path), []
-    for row in MENDING + CALLS:
+    for row in MENDING + UNITS + CALLS:
         count, most = results.count(row, "product"), targets.pop(row.id, None)
         aim = "" if most is None else "of " + shown(most)
         if count is None or (most is not None and count > most):
@@ -146,7 +156,7 @@ def rows_table(title, rows, results, targets, columns):
 def notes(results, columns):
     """Where a peer's answers are others than those expected."""
     for column, label in columns:
-        for row in MENDING + CALLS:
+        for row in MENDING + UNITS + CALLS:
             word, share = results.verdict(row, column)
             if word == "differs" and column not in PART:
                 print("\\* %s, %s: %s answers as expected  " % (label, row.label, share))
@@ -156,15 +166,19 @@ def notes(results, columns):
 def tables(folder, path, *pairs):
     results, targets = Results(folder), targets_of(path)
     columns = [pair.split("=", 1) for pair in pairs]
-    able = [pair for pair in columns if any(results.count(row, pair[0]) is not None for row in CALLS)]
+
+    def able(rows):
+        return [pair for pair in columns if any(results.count(row, pair[0]) is not None for row in rows)]
+
     rows_table("for each byte", MENDING + [ODD], results, targets, columns)
-    rows_table("for each call", CALLS, results, targets, able)
+    rows_table("for each 16-bit unit", UNITS + [ODD_UNITS], results, targets, able(UNITS))
+    rows_table("for each call", CALLS, results, targets, able(CALLS))
     notes(results, columns)
     return 0
 
 
 def rows():
-    for row in MENDING + CALLS + [ODD]:
+    for row in MENDING + UNITS + CALLS + [ODD, ODD_UNITS]:
         print(row.job, row.input, "%02d" % row.few, "%02d" % row.many)
 
 

@@ -29,8 +29,8 @@ extern "C" {
 
    The caller has duties that no call can check:
 
-   - A pointer is good for as many bytes as the length beside it says. NULL comes only with length
-     0.
+   - A pointer is good for as many elements as the length beside it says: bytes, or 16-bit units. A
+     pointer to units is aligned as C asks of a uint16_t *. NULL comes only with length 0.
    - A buffer that is written to overlaps no other of the same call: a text is not mended in place.
 
          WRONG   pulphopper_mend(label, length, label, sizeof label);
@@ -38,13 +38,13 @@ extern "C" {
          RIGHT   uint8_t mended[PULPHOPPER_MENDED_MOST(sizeof label)];
                  pulphopper_mend(label, length, mended, sizeof mended);
 
-   A text over the limit is refused before any byte of it is read, for every length up to
-   SIZE_MAX. */
+   A text over the limit is refused before anything of it is read, for every length up to SIZE_MAX,
+   of units up to SIZE_MAX / 2. */
 
 /* The version of this header and its archive, as three numbers. The first rises when a program that
    was right may have to change, the second when something is added, the third otherwise. */
 #define PULPHOPPER_VERSION_MAJOR 1
-#define PULPHOPPER_VERSION_MINOR 0
+#define PULPHOPPER_VERSION_MINOR 1
 #define PULPHOPPER_VERSION_PATCH 0
 
 /* The version as one number, for #if: 10203 would be 1.2.3. */
@@ -56,12 +56,16 @@ extern "C" {
 #define PULPHOPPER_DOTTED(major, minor, patch) PULPHOPPER_QUOTED(major) "." PULPHOPPER_QUOTED(minor) "." PULPHOPPER_QUOTED(patch)
 #define PULPHOPPER_QUOTED(number) #number
 
-/* The most bytes of a text that a call takes. */
+/* The most bytes of a text that a call takes, and the most 16-bit units. */
 #define PULPHOPPER_LIMIT 16384
 
 /* The most bytes that a text of `length` bytes is mended to, three for each: a buffer of this size
    is always enough. For lengths up to PULPHOPPER_LIMIT; a longer text is refused. */
 #define PULPHOPPER_MENDED_MOST(length) (3 * (length))
+
+/* The most units that a text of `length` units is mended to, as many: mending units never makes a
+   text longer. */
+#define PULPHOPPER_MENDED_UNITS_MOST(length) (length)
 
 /* The most bytes of a name: a buffer of this size is always enough. */
 #define PULPHOPPER_NAME_MOST 23
@@ -79,7 +83,7 @@ typedef struct pulphopper_answer {
    numbers left out are refusals of calls that C does not have. */
 enum {
     PULPHOPPER_DONE = 0,        /* no refusal: the call is done */
-    PULPHOPPER_OVER_LIMIT = 1,  /* the text is over PULPHOPPER_LIMIT bytes; value: that limit */
+    PULPHOPPER_OVER_LIMIT = 1,  /* the text is over PULPHOPPER_LIMIT; value: that limit */
     PULPHOPPER_NO_ROOM = 3,     /* the buffer is too small; value: the length needed */
     PULPHOPPER_NO_SYLLABLE = 4, /* what is to be named is no syllable; value: 0 */
     PULPHOPPER_NO_NAME = 5      /* the bytes are no syllable's name; value: 0 */
@@ -100,6 +104,21 @@ enum {
    one that is longer than the limit. A mended text within the limit stays as it is when it is
    mended again. */
 pulphopper_answer pulphopper_mend(const uint8_t *text, size_t text_len, uint8_t *out, size_t out_len);
+
+/* Mends a text of 16-bit units, as a clipboard gives it: reads it as UTF-16, each unpaired
+   surrogate as one U+FFFD; joins Hangul letters to syllables, as NFC does; and writes it as UTF-16
+   to the front of `out`. The rest of `out` stays as it was. A unit is a number, with no order of
+   bytes: no byte order mark is dropped or made, and U+FEFF is a character like any other.
+
+     text, text_len   the units; at most PULPHOPPER_LIMIT of them
+     out, out_len     the buffer, in units; PULPHOPPER_MENDED_UNITS_MOST(text_len) are always enough
+     value            how many units were written
+     count            how many unpaired surrogates there were; a U+FFFD in the text is none
+
+   Refuses PULPHOPPER_OVER_LIMIT, then PULPHOPPER_NO_ROOM. To learn the length needed, lend NULL and
+   0: the refusal says it, or the mended text is empty. A mended text stays as it is when it is
+   mended again. It reads as what pulphopper_mend makes of the same text in UTF-8. */
+pulphopper_answer pulphopper_mend_units(const uint16_t *text, size_t text_len, uint16_t *out, size_t out_len);
 
 /* Writes the name of a syllable, as the Unicode Standard has it, to the front of `out`. The rest of
    `out` stays as it was. A name is "HANGUL SYLLABLE " and one to seven letters, 17 to 23 bytes. No

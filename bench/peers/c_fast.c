@@ -151,5 +151,7 @@ ALWAYS size_t run(const uint8_t *text, size_t length, uint8_t *out, uint32_t *ba
 #include "c_fast_names.h"
 #include "c_rank.h"
 #include "c_sort.h"
+#include "c_fast_units.h"
+#include "c_units.h"
 
-const struct peer peer = { 0, mend, name, read, rank, sort };
+const struct peer peer = { 0, mend, name, read, rank, sort, units };

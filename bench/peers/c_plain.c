@@ -115,5 +115,7 @@ static inline __attribute__((always_inline)) size_t run(const uint8_t *text, siz
 #include "c_names.h"
 #include "c_rank.h"
 #include "c_sort.h"
+#include "c_plain_units.h"
+#include "c_units.h"
 
-const struct peer peer = { 0, mend, name, read, rank, sort };
+const struct peer peer = { 0, mend, name, read, rank, sort, units };

@@ -33,4 +33,4 @@ static long read(const uint8_t *name, size_t length)
     return code == UNINAME_INVALID ? -1 : (long)code;
 }
 
-const struct peer peer = { 0, mend, name, read, 0, 0 };
+const struct peer peer = { 0, mend, name, read, 0, 0, 0 };

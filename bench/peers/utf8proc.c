@@ -16,4 +16,4 @@ static long mend(const uint8_t *text, size_t length, uint8_t *out, size_t room)
     return fits ? (long)size : -1;
 }
 
-const struct peer peer = { 0, mend, 0, 0, 0, 0 };
+const struct peer peer = { 0, mend, 0, 0, 0, 0, 0 };

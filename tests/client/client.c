@@ -16,9 +16,10 @@ static void the_answer_is_laid_out_as_the_header_says(void) {
     CHECK(PULPHOPPER_LIMIT == 16384);
     CHECK(PULPHOPPER_NAME_MOST == 23);
     CHECK(PULPHOPPER_MENDED_MOST(1 + 1) == 6 && 12 / PULPHOPPER_MENDED_MOST(2) == 2);
+    CHECK(2 * PULPHOPPER_MENDED_UNITS_MOST(1 + 1) == 4 && 12 / PULPHOPPER_MENDED_UNITS_MOST(1 + 2) == 4);
 }
 
-#if PULPHOPPER_VERSION < 10000 || PULPHOPPER_MENDED_MOST(PULPHOPPER_LIMIT) != 49152
+#if PULPHOPPER_VERSION < 10100 || PULPHOPPER_MENDED_MOST(PULPHOPPER_LIMIT) != 49152 || PULPHOPPER_MENDED_UNITS_MOST(PULPHOPPER_LIMIT) != 16384
 #error "a macro of the header is of no use in #if"
 #endif
 
@@ -29,6 +30,7 @@ static void the_version_is_said_alike_in_every_form(void) {
     CHECK(PULPHOPPER_VERSION / 10000 == PULPHOPPER_VERSION_MAJOR);
     CHECK(PULPHOPPER_VERSION / 100 % 100 == PULPHOPPER_VERSION_MINOR);
     CHECK(PULPHOPPER_VERSION % 100 == PULPHOPPER_VERSION_PATCH);
+    CHECK(PULPHOPPER_VERSION == 10100 && strcmp(PULPHOPPER_VERSION_STRING, "1.1.0") == 0);
 }
 
 int main(void) {
@@ -37,6 +39,7 @@ int main(void) {
     RUN(the_answer_is_laid_out_as_the_header_says);
     RUN(the_version_is_said_alike_in_every_form);
     check_mending();
+    check_mending_units();
     check_naming();
     check_ranking();
     most_stack = check_stack();

@@ -1,6 +1,6 @@
 /* What the files of the client share: counting, lent buffers between fences, and pages that may not
-   be touched. It calls nothing of the library: mending.c, naming.c, ranking.c and stack.c do, which
-   hold each call to what include/pulphopper.h says of it. */
+   be touched. It calls nothing of the library: mending.c, units.c, naming.c, ranking.c and stack.c
+   do, which hold each call to what include/pulphopper.h says of it. */
 #ifndef CLIENT_H
 #define CLIENT_H
 
@@ -59,8 +59,9 @@ pages guarded_bytes(size_t size);
 pages guarded_pages(void);
 
 /* Where a text can be said to stand that must not be read: an untouchable page, else a single good
-   byte. */
+   element. */
 const uint8_t *unreadable(void);
+const uint16_t *unreadable_units(void);
 
 /* ---- small things */
 
@@ -70,18 +71,24 @@ const uint8_t *unreadable(void);
 /* A pointer to char may point at any bytes; the library takes them as uint8_t. */
 const uint8_t *bytes_of(const char *text);
 
+/* A place among bytes as a pointer to units: it is even, which no compiler can see. */
+uint16_t *units_at(uint8_t *place);
+
 int is(pulphopper_answer answer, uint32_t refusal, uint64_t value, uint32_t count);
 
 /* Fills a text with a piece, again and again; the last may be cut. */
 void repeat(uint8_t *text, size_t text_len, const char *piece, size_t piece_len);
+void repeat_units(uint16_t *text, size_t text_len, const uint16_t *piece, size_t piece_len);
 
-/* Does `refused` with lengths over the limit, up to SIZE_MAX; also such that are `small` again when
-   cut to 32 or 16 bits, or small when two or three of them are added. */
-void each_length_over(size_t small, void (*refused)(size_t length));
+/* Does `refused` with lengths over the limit, up to `most`. Some are `small` again when they are cut
+   to 32 or 16 bits, some when they are doubled and cut, and some are small when two or three of
+   them are added. */
+void each_length_over(size_t most, size_t small, void (*refused)(size_t length));
 
 /* ---- the checks, by what is called */
 
 void check_mending(void);
+void check_mending_units(void);
 void check_naming(void);
 void check_ranking(void);
 

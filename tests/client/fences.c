@@ -76,18 +76,32 @@ pages guarded_bytes(size_t size) {
 
 pages guarded_pages(void) { return guarded_bytes(page_size()); }
 
-const uint8_t *unreadable(void) {
-    static const uint8_t single = 0x41;
+/* NULL if there are no such pages. */
+static uint8_t *untouchable_page(void) {
     static pages guarded = {NULL, 0};
     if (guarded.good == NULL) {
         guarded = guarded_pages();
     }
-    return guarded.good != NULL ? guarded.good + guarded.size : &single;
+    return guarded.good != NULL ? guarded.good + guarded.size : NULL;
+}
+
+const uint8_t *unreadable(void) {
+    static const uint8_t single = 0x41;
+    const uint8_t *page = untouchable_page();
+    return page != NULL ? page : &single;
+}
+
+const uint16_t *unreadable_units(void) {
+    static const uint16_t single = 0x41;
+    uint8_t *page = untouchable_page();
+    return page != NULL ? units_at(page) : &single;
 }
 
 /* ---- small things */
 
 const uint8_t *bytes_of(const char *text) { return (const uint8_t *)text; }
+
+uint16_t *units_at(uint8_t *place) { return (uint16_t *)(void *)place; }
 
 int is(pulphopper_answer answer, uint32_t refusal, uint64_t value, uint32_t count) {
     return answer.refusal == refusal && answer.value == value && answer.count == count;
@@ -100,19 +114,28 @@ void repeat(uint8_t *text, size_t text_len, const char *piece, size_t piece_len)
     }
 }
 
-void each_length_over(size_t small, void (*refused)(size_t length)) {
-    refused(SIZE_MAX);
-    refused(SIZE_MAX - 1);
-    refused(SIZE_MAX / 2 + 1);
-    refused(SIZE_MAX / 2);
-    refused(SIZE_MAX / 3 + 1);
-    refused(SIZE_MAX / 3);
-    refused((size_t)UINT32_MAX);
+void repeat_units(uint16_t *text, size_t text_len, const uint16_t *piece, size_t piece_len) {
+    size_t i;
+    for (i = 0; i < text_len; i++) {
+        text[i] = piece[i % piece_len];
+    }
+}
+
+void each_length_over(size_t most, size_t small, void (*refused)(size_t length)) {
+    refused(most);
+    refused(most - 1);
+    refused(most / 2 + 1);
+    refused(most / 2);
+    refused(most / 3 + 1);
+    refused(most / 3);
 #if SIZE_MAX > UINT32_MAX
+    refused((size_t)UINT32_MAX);
     refused((size_t)UINT32_MAX + 1);
     refused((size_t)UINT32_MAX + 1 + small);
+    refused((size_t)UINT32_MAX / 2 + 1 + small);
 #endif
     refused((size_t)0x10000 + small);
+    refused((size_t)0x8000 + small);
     refused(PULPHOPPER_LIMIT + 2);
     refused(PULPHOPPER_LIMIT + 1);
 }

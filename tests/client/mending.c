@@ -221,8 +221,8 @@ static void refused_unread(size_t text_len) {
 /* Once with lengths that are small when cut, once with such that are the limit then. */
 static void a_text_that_is_too_long_is_refused_unread(void) {
     static const uint8_t single = 0x41;
-    each_length_over(1, refused_unread);
-    each_length_over(PULPHOPPER_LIMIT, refused_unread);
+    each_length_over(SIZE_MAX, 1, refused_unread);
+    each_length_over(SIZE_MAX, PULPHOPPER_LIMIT, refused_unread);
     CHECK(is(pulphopper_mend(&single, SIZE_MAX, NULL, 0), PULPHOPPER_OVER_LIMIT, 16384, 0));
 }
 

@@ -285,7 +285,7 @@ static void refused_unread(size_t length) {
 }
 
 /* 18 is the length of a name. */
-static void a_name_that_is_too_long_is_refused_unread(void) { each_length_over(18, refused_unread); }
+static void a_name_that_is_too_long_is_refused_unread(void) { each_length_over(SIZE_MAX, 18, refused_unread); }
 
 /* A name and so many bytes after it that the whole is as long as the limit, and one longer. */
 static void the_limit_holds_after(const known *one, int after) {

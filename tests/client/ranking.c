@@ -156,7 +156,7 @@ static void refused_unread(size_t length) {
     CHECK(is_over(pulphopper_rank(unreadable(), PULPHOPPER_LIMIT, unreadable(), length)));
 }
 
-static void a_label_that_is_too_long_is_refused_unread(void) { each_length_over(1, refused_unread); }
+static void a_label_that_is_too_long_is_refused_unread(void) { each_length_over(SIZE_MAX, 1, refused_unread); }
 
 static uint8_t long_label[MOST_TEXT];
 static uint8_t other_label[MOST_TEXT];

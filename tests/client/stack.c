@@ -1,6 +1,6 @@
 /* How much stack a call takes: each runs in a thread that has 64 KiB, on texts of the limit's size
    too, and may need at most STACK_MOST of them. It holds no answer to its text, beyond the refusal:
-   mending.c, naming.c and ranking.c do. */
+   mending.c, units.c, naming.c and ranking.c do. */
 #ifndef _DEFAULT_SOURCE
 #define _DEFAULT_SOURCE 1 /* for pthread_attr_setstack */
 #endif
@@ -12,7 +12,7 @@
 /* ---- a call in a thread, with its stack painted */
 
 #define STACK ((size_t)64 * 1024)
-#define PAINT 0xC0    /* no text here has this byte */
+#define PAINT 0xC0 /* no text here has this byte, nor has a unit */
 /* Bytes below the caller's mark: its own frame, and what painting itself needs. */
 #define UNPAINTED 256
 
@@ -24,6 +24,8 @@ typedef struct task {
     size_t other_len;
     uint8_t *out;
     size_t out_len;
+    const uint16_t *units; /* with text_len and out_len, in place of text and out */
+    uint16_t *units_out;
     uint32_t code;
     pulphopper_answer answer;
     size_t taken; /* from the caller down to the lowest byte that was written; at least UNPAINTED */
@@ -104,7 +106,7 @@ static void the_measure_sees_what_is_taken(void) {
     CHECK(known.taken > STACK_MOST && known.answer.value == KNOWN_SIZE);
 }
 
-/* ---- texts of the limit's size and one byte more, each a piece repeated */
+/* ---- texts of the limit's size and one byte or unit more, each a piece repeated */
 
 static const struct piece {
     const char *bytes;
@@ -121,13 +123,33 @@ static const struct piece {
     {BYTES("9")},
 };
 
+static const struct piece_of_units {
+    uint16_t units[8];
+    size_t length;
+} PIECES_OF_UNITS[] = {
+    {{0x41}, 1},
+    {{0xAC01}, 1},                                               /* a syllable */
+    {{0x1100, 0x1161, 0x11A8}, 3},                               /* the same in letters */
+    {{0xAC00, 0x11A8}, 2},                                       /* and in some of both */
+    {{0x1100, 0xD83D, 0x1161, 0x20, 0xDEA2, 0xAC00, 0x11A8}, 7}, /* with units lost */
+    {{0xD800}, 1},                                               /* nothing but damage */
+    {{0xDC00}, 1},
+    {{0xD83D, 0xDEA2}, 2},                                       /* a pair; the limit cuts none */
+    {{0x1100, 0xD83D, 0xDEA2}, 3},
+};
+
 static uint8_t texts[COUNT_OF(PIECES)][MOST_TEXT];
 static uint8_t room[MOST_OUT];
+static uint16_t texts_of_units[COUNT_OF(PIECES_OF_UNITS)][MOST_TEXT];
+static uint16_t room_for_units[MOST_TEXT];
 
 static void make_texts(void) {
     size_t i;
     for (i = 0; i < COUNT_OF(PIECES); i++) {
         repeat(texts[i], MOST_TEXT, PIECES[i].bytes, PIECES[i].length);
+    }
+    for (i = 0; i < COUNT_OF(PIECES_OF_UNITS); i++) {
+        repeat_units(texts_of_units[i], MOST_TEXT, PIECES_OF_UNITS[i].units, PIECES_OF_UNITS[i].length);
     }
 }
 
@@ -157,6 +179,35 @@ static void mending_takes_little_stack(void) {
         mending_takes_little(texts[i], PULPHOPPER_LIMIT + 1, MOST_OUT, PULPHOPPER_OVER_LIMIT);
     }
     mending_takes_little(NULL, 0, 0, PULPHOPPER_DONE);
+}
+
+static pulphopper_answer call_mend_units(const task *one) {
+    return pulphopper_mend_units(one->units, one->text_len, one->units_out, one->out_len);
+}
+
+static void mending_units_takes_little(const uint16_t *text, size_t text_len, size_t out_len, uint32_t refusal) {
+    task one = task_of(call_mend_units);
+    one.units = text;
+    one.text_len = text_len;
+    one.units_out = out_len > 0 ? room_for_units : NULL;
+    one.out_len = out_len;
+    takes_little(one, refusal);
+}
+
+/* With a full buffer, one that is just large enough, shorter ones and none. */
+static void mending_units_takes_little_stack(void) {
+    size_t i;
+    for (i = 0; i < COUNT_OF(texts_of_units); i++) {
+        const uint16_t *text = texts_of_units[i];
+        size_t needed = (size_t)pulphopper_mend_units(text, PULPHOPPER_LIMIT, NULL, 0).value;
+        mending_units_takes_little(text, PULPHOPPER_LIMIT, PULPHOPPER_MENDED_UNITS_MOST(PULPHOPPER_LIMIT), PULPHOPPER_DONE);
+        mending_units_takes_little(text, PULPHOPPER_LIMIT, needed, PULPHOPPER_DONE);
+        mending_units_takes_little(text, PULPHOPPER_LIMIT, needed - 1, PULPHOPPER_NO_ROOM);
+        mending_units_takes_little(text, PULPHOPPER_LIMIT, 1, PULPHOPPER_NO_ROOM);
+        mending_units_takes_little(text, PULPHOPPER_LIMIT, 0, PULPHOPPER_NO_ROOM);
+        mending_units_takes_little(text, PULPHOPPER_LIMIT + 1, MOST_TEXT, PULPHOPPER_OVER_LIMIT);
+    }
+    mending_units_takes_little(NULL, 0, 0, PULPHOPPER_DONE);
 }
 
 #define LONGEST_NAMED 0xAEA2 /* HANGUL SYLLABLE GGYAEGG */
@@ -246,6 +297,7 @@ size_t check_stack(void) {
         make_texts();
         RUN(the_measure_sees_what_is_taken);
         RUN(mending_takes_little_stack);
+        RUN(mending_units_takes_little_stack);
         RUN(names_take_little_stack);
         RUN(ranking_takes_little_stack);
     }

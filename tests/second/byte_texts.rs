@@ -4,6 +4,7 @@
 use crate::random::Random;
 use crate::texts::{self, TextMaker};
 use crate::utf8::{written, written_code, TABLE_3_7};
+use crate::wire::CodeUnit;
 
 /// The ends of the ranges of table 3-7 and the bytes next to them.
 pub const BOUNDARY_BYTES: [u8; 24] = [
@@ -64,7 +65,10 @@ pub fn byte_pairs() -> Vec<Vec<u8>> {
 }
 
 /// Each sequence with each of the pieces after it.
-fn longer<Piece: AsRef<[u8]>>(sequences: &[Vec<u8>], pieces: &[Piece]) -> Vec<Vec<u8>> {
+fn longer<Unit: Copy, Piece: AsRef<[Unit]>>(
+    sequences: &[Vec<Unit>],
+    pieces: &[Piece],
+) -> Vec<Vec<Unit>> {
     let mut longer = Vec::with_capacity(sequences.len() * pieces.len());
     for sequence in sequences {
         let pieces = pieces.iter().map(AsRef::as_ref);
@@ -74,7 +78,10 @@ fn longer<Piece: AsRef<[u8]>>(sequences: &[Vec<u8>], pieces: &[Piece]) -> Vec<Ve
 }
 
 /// All sequences of so many of the pieces.
-pub fn sequences<Piece: AsRef<[u8]>>(pieces: &[Piece], count: usize) -> Vec<Vec<u8>> {
+pub fn sequences<Unit: Copy, Piece: AsRef<[Unit]>>(
+    pieces: &[Piece],
+    count: usize,
+) -> Vec<Vec<Unit>> {
     let mut sequences = vec![Vec::new()];
     for _ in 0..count {
         sequences = longer(&sequences, pieces);
@@ -87,8 +94,8 @@ pub fn boundary_sequences(length: usize) -> Vec<Vec<u8>> {
     sequences(&BOUNDARY_BYTES.map(|byte| [byte]), length)
 }
 
-pub fn with_wall(mut piece: Vec<u8>) -> Vec<u8> {
-    piece.push(WALL);
+pub fn with_wall<Unit: CodeUnit>(mut piece: Vec<Unit>) -> Vec<Unit> {
+    piece.push(Unit::from(WALL));
     piece
 }
 
@@ -132,30 +139,36 @@ pub fn tempting_texts() -> Vec<Vec<u8>> {
         .collect()
 }
 
-/// The text cut after and before each byte, with each byte lost, and each doubled.
-pub fn damaged_texts(text: &[u32]) -> Vec<Vec<u8>> {
-    let bytes = written(text);
-    let mut texts = vec![bytes.clone()];
-    for (place, &byte) in bytes.iter().enumerate() {
-        texts.push(with(&bytes, place..place + 1, &[]));
-        texts.push(with(&bytes, place..place + 1, &[byte, byte]));
-        texts.push(bytes[..place].to_vec());
-        texts.push(bytes[place..].to_vec());
+/// The code units cut after and before each, with each lost, and each doubled.
+pub fn damaged_units<Unit: CodeUnit>(units: &[Unit]) -> Vec<Vec<Unit>> {
+    let mut texts = vec![units.to_vec()];
+    for (place, &unit) in units.iter().enumerate() {
+        texts.push(with(units, place..place + 1, &[]));
+        texts.push(with(units, place..place + 1, &[unit, unit]));
+        texts.push(units[..place].to_vec());
+        texts.push(units[place..].to_vec());
     }
     texts
 }
 
-/// The text with each byte changed to a boundary byte, and with one put in before it.
-pub fn changed_texts(text: &[u32]) -> Vec<Vec<u8>> {
-    let bytes = written(text);
+/// The code units with each changed to each of the others, and with one of these put in before it.
+pub fn changed_units<Unit: CodeUnit>(units: &[Unit], others: &[Unit]) -> Vec<Vec<Unit>> {
     let mut texts = Vec::new();
-    for other in BOUNDARY_BYTES {
-        for place in 0..bytes.len() {
-            texts.push(with(&bytes, place..place + 1, &[other]));
-            texts.push(with(&bytes, place..place, &[other]));
+    for &other in others {
+        for place in 0..units.len() {
+            texts.push(with(units, place..place + 1, &[other]));
+            texts.push(with(units, place..place, &[other]));
         }
     }
     texts
+}
+
+pub fn damaged_texts(text: &[u32]) -> Vec<Vec<u8>> {
+    damaged_units(&written(text))
+}
+
+pub fn changed_texts(text: &[u32]) -> Vec<Vec<u8>> {
+    changed_units(&written(text), &BOUNDARY_BYTES)
 }
 
 /// Each of these, over and over, is a long text: one to four bytes to a character, and bytes that
@@ -186,12 +199,13 @@ pub const PLACED: [&[u8]; 6] = [
     &[0xEF, 0xBF, 0xBD],
 ];
 
-/// A few bytes at each place of a text that else passes through: a program that takes several
-/// bytes at a time must not lose what lies across its blocks.
-pub fn at_each_place(pieces: &[&[u8]]) -> Vec<Vec<u8>> {
+/// A few code units at each place of a text that else passes through: a program that takes several
+/// at a time must not lose what lies across its blocks.
+pub fn at_each_place<Unit: CodeUnit>(pieces: &[&[Unit]]) -> Vec<Vec<Unit>> {
+    let passing = [Unit::from(WALL); 66];
     let mut texts = Vec::new();
     for piece in pieces {
-        texts.extend((0..=66).map(|place| with(&[0x41; 66], place..place, piece)));
+        texts.extend((0..=66).map(|place| with(&passing, place..place, piece)));
     }
     texts
 }
@@ -245,26 +259,38 @@ pub fn damaged(random: &mut Random, good: TextMaker, length: usize) -> Vec<u8> {
     with_damage(random, bytes)
 }
 
-/// The bytes with a few, often none, changed, lost or put in.
-pub fn with_damage(random: &mut Random, mut bytes: Vec<u8>) -> Vec<u8> {
+pub fn with_damage(random: &mut Random, bytes: Vec<u8>) -> Vec<u8> {
+    with_damaged_units(random, bytes, &BOUNDARY_BYTES)
+}
+
+/// The code units with a few, often none, changed, lost or put in: by one of the others, or by a
+/// changed bit.
+pub fn with_damaged_units<Unit: CodeUnit>(
+    random: &mut Random,
+    mut units: Vec<Unit>,
+    others: &[Unit],
+) -> Vec<Unit> {
     for _ in 0..random.below(4) {
-        if bytes.is_empty() {
-            return bytes;
+        if units.is_empty() {
+            return units;
         }
-        let place = random.below(bytes.len());
-        let byte = random.pick(&BOUNDARY_BYTES);
-        bytes = match random.below(4) {
-            0 => with(&bytes, place..place + 1, &[]),
-            1 => with(&bytes, place..place, &[byte]),
-            2 => with(&bytes, place..place + 1, &[byte]),
-            _ => with(
-                &bytes,
-                place..place + 1,
-                &[bytes[place] ^ (1 << random.below(8))],
-            ),
+        let place = random.below(units.len());
+        let other = random.pick(others);
+        let replacing = match random.below(4) {
+            0 => vec![],
+            1 => vec![other, units[place]],
+            2 => vec![other],
+            _ => vec![with_changed_bit(random, units[place])],
         };
+        units = with(&units, place..place + 1, &replacing);
     }
-    bytes
+    units
+}
+
+fn with_changed_bit<Unit: CodeUnit>(random: &mut Random, unit: Unit) -> Unit {
+    let bits = 8 * std::mem::size_of::<Unit>();
+    let changed = unit.into() ^ (1 << random.below(bits));
+    Unit::try_from(changed).unwrap_or(unit)
 }
 
 /// Bytes of the given length, of one of several styles. Well-formed ones are cut to it, so that

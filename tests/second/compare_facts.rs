@@ -3,12 +3,12 @@
 
 use crate::compare::{check_answer, Plan};
 use crate::facts::Facts;
-use crate::kinds::{chosen, Kind, TABLE};
+use crate::kinds::{self, chosen, Kind};
 use crate::random::Random;
 use crate::wire::{put_answer, Call, ANSWER_HEADER};
 
 pub fn state_all(facts: &mut Facts) {
-    for kind in TABLE {
+    for kind in kinds::all() {
         wrong_answers(facts, kind);
     }
     seeds_of_chunks(facts);
@@ -57,7 +57,7 @@ fn calls_of(kinds: &[&'static Kind], chunk: Option<u64>) -> Vec<Call> {
 /// A chunk is the same each time it is made; another chunk has other calls; the plain run begins
 /// with edges, of which a chunk has none.
 fn chunks(facts: &mut Facts) {
-    for kind in TABLE {
+    for kind in kinds::all() {
         let made = |chunk| calls_of(&[kind], chunk);
         let (first, again, second) = (made(Some(0)), made(Some(0)), made(Some(1)));
         let name = kind.name;
@@ -83,7 +83,7 @@ fn lists_of_kinds(facts: &mut Facts) {
     };
     let read = numbers("8,9,12,14");
     facts.state("a list of kinds is read", read == Some(vec![8, 9, 12, 14]));
-    for list in ["", "0", "20", "8,", "8,8", "8 9", "8,x", "-8"] {
+    for list in ["", "0", "23", "8,", "8,8", "8 9", "8,x", "-8"] {
         let refused = numbers(list).is_none();
         facts.state(&format!("the list of kinds \"{list}\" is refused"), refused);
     }
@@ -91,11 +91,11 @@ fn lists_of_kinds(facts: &mut Facts) {
 
 /// Chosen kinds have an even share of the calls, and the others none.
 fn restricted(facts: &mut Facts) {
-    for list in ["9", "8,9,12,14", "14,2"] {
+    for list in ["9", "8,9,12,14", "14,2", "20,21,22"] {
         let kinds = chosen(list).expect("these are kinds");
         let calls = calls_of(&kinds, None);
-        let share = |kind: &&Kind| calls.iter().filter(|call| call.kind == kind.number).count();
-        let even = TABLE.iter().all(|kind| {
+        let share = |kind: &Kind| calls.iter().filter(|call| call.kind == kind.number).count();
+        let even = kinds::all().all(|kind| {
             let is_chosen = kinds.iter().any(|chosen| chosen.number == kind.number);
             share(kind) == if is_chosen { 20 } else { 0 }
         });

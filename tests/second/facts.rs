@@ -6,7 +6,7 @@ use crate::compare_facts;
 use crate::filler_facts;
 use crate::gathering_facts;
 use crate::joining_facts;
-use crate::kinds::{kind_of, Kind, TABLE};
+use crate::kinds::{self, kind_of, Kind};
 use crate::label_facts;
 use crate::letter_facts;
 use crate::letters::{answer_of_text, Refusal};
@@ -17,8 +17,12 @@ use crate::random::Random;
 use crate::ranking_cases::RANKING;
 use crate::ranking_facts;
 use crate::reading_cases::READING;
+use crate::reading_kinds::{answer_of_units, Made};
 use crate::simple_facts;
-use crate::utf8::{answer_of_bytes, Made};
+use crate::unit_mending_facts;
+use crate::unit_reading_cases::UNIT_READING;
+use crate::unit_writing_cases::UNIT_WRITING;
+use crate::utf16_facts;
 use crate::utf8_facts;
 use crate::wire::{get_answer, get_call, put_answer, put_call, Call, Cursor, Shape};
 use crate::writing_cases::WRITING;
@@ -48,6 +52,8 @@ pub fn all() -> Facts {
     filler_facts::state_all(&mut facts);
     utf8_facts::state_all(&mut facts);
     mending_facts::state_all(&mut facts);
+    utf16_facts::state_all(&mut facts);
+    unit_mending_facts::state_all(&mut facts);
     naming_facts::state_all(&mut facts);
     ranking_facts::state_all(&mut facts);
     label_facts::state_all(&mut facts);
@@ -55,6 +61,7 @@ pub fn all() -> Facts {
     wire_form(&mut facts);
     wire_form_of_answers(&mut facts);
     wire_form_of_bytes(&mut facts);
+    wire_form_of_units(&mut facts);
     wire_form_of_two_texts(&mut facts);
     wire_form_of_images(&mut facts);
     generator(&mut facts);
@@ -74,16 +81,16 @@ pub fn refusal(whole: fn(&[u32]) -> Vec<u32>, text: &[u32], room: u32) -> (u32, 
 /// A fact in words, a text, a room, and the number and place of the refusal.
 pub type TextCase<'text> = (&'static str, &'text [u32], u32, (u32, u32));
 
-/// The same of a call that reads bytes.
-pub fn refusal_of_bytes(whole: fn(&[u8]) -> Made, bytes: &[u8], room: u32) -> (u32, u32) {
-    match answer_of_bytes(bytes, room, whole) {
+/// The same of a call that reads code units.
+pub fn refusal_of_units<Unit>(whole: fn(&[Unit]) -> Made, units: &[Unit], room: u32) -> (u32, u32) {
+    match answer_of_units(units, room, whole) {
         Err(Refusal { number, place }) => (number, place),
         Ok(_) => (0, 0),
     }
 }
 
-/// A fact in words, bytes, a room, and the number and place of the refusal.
-pub type ByteCase<'bytes> = (&'static str, &'bytes [u8], u32, (u32, u32));
+/// A fact in words, code units, a room, and the number and place of the refusal.
+pub type UnitCase<'units, Unit> = (&'static str, &'units [Unit], u32, (u32, u32));
 
 /// Only the right file is taken: a wrong one could have nothing in it to disagree with.
 fn files_of_normalization_tests(facts: &mut Facts) {
@@ -91,9 +98,18 @@ fn files_of_normalization_tests(facts: &mut Facts) {
     let outside = "00C5;00C5;0041 030A;00C5;0041 030A;\n";
     let inside = "AC00;AC00;1100 1161;AC00;1100 1161; # (comment; with a semicolon)\n";
     let whole = format!("{title}@Part0 # cases\n{outside}#\n@Part1 # characters\n{inside}# EOF\n");
-    let counted = published::trials_of(&whole).map(|trials| (trials.lines, trials.characters));
+    let counted = |list| {
+        let kinds = kinds::chosen(list).expect("these are kinds");
+        let trials = published::trials_of(&whole, &kinds)?;
+        Ok::<_, String>((trials.lines, trials.characters))
+    };
     let characters = 128 + 256 + 11_172 + 2 - 1;
-    facts.state("a published file is read", counted == Ok((1, characters)));
+    facts.state(
+        "a published file is read",
+        counted("3,4") == Ok((1, characters)),
+    );
+    facts.state("and read for units", counted("22") == Ok((1, characters)));
+    facts.state("it says nothing of other kinds", counted("20,21").is_err());
     let wrong = [
         ("no title", whole.replace(title, "")),
         ("no end", whole.replace("# EOF\n", "")),
@@ -112,7 +128,7 @@ fn files_of_normalization_tests(facts: &mut Facts) {
         ("nothing", String::new()),
     ];
     for (fault, text) in wrong {
-        let refused = published::trials_of(&text).is_err();
+        let refused = published::trials_of(&text, kinds::OF_CALLS).is_err();
         facts.state(&format!("a file with {fault} is refused"), refused);
     }
 }
@@ -174,6 +190,32 @@ fn wire_form_of_bytes(facts: &mut Facts) {
     facts.state("a byte of room takes a byte", bytes.len() == 16 + 5);
     let read = get_answer(&mut Cursor::new(&bytes), &writing, &WRITING.shape);
     facts.state("such an answer is read as written", read == Some(answer));
+}
+
+/// Units in and code points out, and the other way round.
+fn wire_form_of_units(facts: &mut Facts) {
+    let reading = (UNIT_READING.stored)().swap_remove(0);
+    let answer = (UNIT_READING.answer)(&reading);
+    let mut bytes = Vec::new();
+    put_call(&reading, &UNIT_READING.shape, &mut bytes);
+    let elements = [0x01, 0xAC, 0x3D, 0xD8, 0xA2, 0xDE, 0x41, 0];
+    facts.state("units take two bytes each", bytes[32..] == elements);
+    let read = get_call(&mut Cursor::new(&bytes), |_| Some(UNIT_READING.shape));
+    facts.state("and units are read as written", read == Some(reading));
+    let buffer = [0xAC01, 0x1_F6A2, 0x41, 0xA5A5_A5A5];
+    facts.state("what units are stands in numbers", answer.lent == buffer);
+    let writing = (UNIT_WRITING.stored)().swap_remove(0);
+    let answer = (UNIT_WRITING.answer)(&writing);
+    let buffer = [0xAC01, 0xD83D, 0xDEA2, 0x41, 0xA5A5];
+    facts.state("what is written stands in units", answer.lent == buffer);
+    bytes.clear();
+    put_answer(&answer, &UNIT_WRITING.shape, &mut bytes);
+    facts.state("a unit of room takes two bytes", bytes.len() == 16 + 10);
+    let read = get_answer(&mut Cursor::new(&bytes), &writing, &UNIT_WRITING.shape);
+    facts.state(
+        "an answer in units is read as written",
+        read == Some(answer),
+    );
 }
 
 /// The second text stands after the first; a kind that takes none has no place for it.
@@ -255,7 +297,7 @@ fn stored_bytes(kind: &Kind) -> usize {
 
 /// The stored cases show every refusal that fits into a small file, and leave room to spare.
 fn stored_cases(facts: &mut Facts) {
-    let kinds = || TABLE.iter().copied();
+    let kinds = kinds::all;
     for refusal in [0, 2, 3, 4, 5, 6, 7] {
         let stored = kinds().any(|kind| {
             let calls = (kind.stored)();

@@ -1,5 +1,5 @@
 // The table of the kinds of call: for each its number, wire form, definition, cases and words.
-// It defines no answers itself; a new kind is a module of its own and one line in TABLE.
+// It defines no answers itself; a new kind is a module of its own and one line in a table.
 
 use crate::cases;
 use crate::filler_cases;
@@ -16,6 +16,9 @@ use crate::ranking_cases;
 use crate::reading_cases;
 use crate::simple_cases;
 use crate::texts;
+use crate::unit_mending_cases;
+use crate::unit_reading_cases;
+use crate::unit_writing_cases;
 use crate::wire::{Answer, Call, Shape, Width};
 use crate::writing_cases;
 
@@ -43,9 +46,9 @@ pub struct Kind {
     pub outcome: fn(&Call, &Answer) -> String,
 }
 
-/// Each kind on a line of its own, in the order of their numbers.
+/// The kinds of the program calls, each on a line of its own, in the order of their numbers.
 #[rustfmt::skip]
-pub const TABLE: &[&Kind] = &[
+pub const OF_CALLS: &[&Kind] = &[
     &cases::SORTER,
     &cases::ONE_STEP,
     &cases::FULL_PARTS,
@@ -67,11 +70,24 @@ pub const TABLE: &[&Kind] = &[
     &label_writing_cases::RECORD_WRITING,
 ];
 
+/// And those of the program calls2.
+#[rustfmt::skip]
+const OF_CALLS2: &[&Kind] = &[
+    &unit_reading_cases::UNIT_READING,
+    &unit_writing_cases::UNIT_WRITING,
+    &unit_mending_cases::UNIT_MENDING,
+];
+
 /// The largest kind number that docs/CALLS.md gives out; the next one is unknown.
-pub const LAST_KIND: u32 = 19;
+pub const LAST_KIND: u32 = 22;
+
+/// Every kind, whichever program has it.
+pub fn all() -> impl Iterator<Item = &'static Kind> {
+    OF_CALLS.iter().chain(OF_CALLS2).copied()
+}
 
 pub fn find(number: u32) -> Option<&'static Kind> {
-    TABLE.iter().copied().find(|kind| kind.number == number)
+    all().find(|kind| kind.number == number)
 }
 
 /// The kinds of a list of numbers with commas between, for a program that has not all of them.
@@ -88,17 +104,17 @@ pub fn chosen(list: &str) -> Result<Vec<&'static Kind>, String> {
     Ok(kinds)
 }
 
-/// The kind of a call made here, which always stands in the table.
+/// The kind of a call made here, which always stands in a table.
 pub fn kind_of(call: &Call) -> &'static Kind {
-    find(call.kind).expect("a call of a kind outside the table was made")
+    find(call.kind).expect("a call of a kind outside the tables was made")
 }
 
 pub fn no_calls() -> Vec<Call> {
     Vec::new()
 }
 
-/// Fills numbers that only the last kind takes, in one of four calls, so that a program which looks
-/// at them is caught.
+/// Fills numbers that only kind 19 takes, in one of four calls, so that a program which looks at
+/// them is caught.
 pub fn with_unused_numbers(mut call: Call, random: &mut Random) -> Call {
     if random.one_in(4) {
         call.y = texts::any_code(random);

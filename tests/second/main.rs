@@ -47,6 +47,7 @@ mod ranking_cases;
 mod ranking_facts;
 mod ranking_texts;
 mod reading_cases;
+mod reading_kinds;
 mod run;
 mod simple;
 mod simple_cases;
@@ -56,6 +57,16 @@ mod stops;
 mod store;
 mod text_kinds;
 mod texts;
+mod unit_kinds;
+mod unit_mending;
+mod unit_mending_cases;
+mod unit_mending_facts;
+mod unit_mending_texts;
+mod unit_reading_cases;
+mod unit_texts;
+mod unit_writing_cases;
+mod utf16;
+mod utf16_facts;
 mod utf8;
 mod utf8_facts;
 mod wire;
@@ -71,19 +82,19 @@ const USAGE: &str = "usage:
   second compare PROGRAM [--seed S] [--calls N] [--chunk K] [--kinds LIST] [--under EMULATOR]
   second all PROGRAM [--kinds LIST] [--under EMULATOR]
   second stops PROGRAM [--kinds LIST] [--under EMULATOR]
-  second published PROGRAM FILE_OF_NORMALIZATION_TESTS [--under EMULATOR]
+  second published PROGRAM FILE_OF_NORMALIZATION_TESTS [--kinds LIST] [--under EMULATOR]
   second names PROGRAM FILE_OF_DERIVED_NAMES [--under EMULATOR]
   second lister PROGRAM [--under EMULATOR]
   second ranker PROGRAM [--under EMULATOR]
-  second store FOLDER
+  second store FOLDER [--kinds LIST]
   second show FILE_OF_CALLS FILE_OF_ANSWERS
   second self
+If no LIST is given, the kinds are those of the program calls: 1 to 19.
 kinds:";
 
 /// How the program is called, and what kinds of call it knows.
 fn usage() -> String {
-    let kinds = kinds::TABLE.iter().copied();
-    let names = kinds.map(|kind| format!(" {} {}", kind.number, kind.name));
+    let names = kinds::all().map(|kind| format!(" {} {}", kind.number, kind.name));
     USAGE.to_string() + &names.collect::<Vec<String>>().join(",")
 }
 
@@ -112,7 +123,7 @@ fn options(words: &[String], known: &[&str]) -> Result<Options, String> {
         seed: 1,
         calls: 20_000,
         chunk: None,
-        kinds: kinds::TABLE.to_vec(),
+        kinds: kinds::OF_CALLS.to_vec(),
         emulator: None,
     };
     for pair in words.chunks(2) {
@@ -181,8 +192,9 @@ fn stops(path: &str, words: &[String]) -> Result<ExitCode, String> {
 }
 
 fn published(path: &str, file: &str, words: &[String]) -> Result<ExitCode, String> {
-    let program = options(words, &["--under"])?.program(path);
-    Ok(verdict(published::check(&program, file)))
+    let options = options(words, &["--kinds", "--under"])?;
+    let program = options.program(path);
+    Ok(verdict(published::check(&program, file, &options.kinds)))
 }
 
 fn derived_names(path: &str, file: &str, words: &[String]) -> Result<ExitCode, String> {
@@ -204,6 +216,11 @@ fn ranker(path: &str, words: &[String]) -> Result<ExitCode, String> {
     Ok(verdict(outcome.map(|count| {
         format!("{count} images are ranked as they must be")
     })))
+}
+
+fn store(folder: &str, words: &[String]) -> Result<ExitCode, String> {
+    let options = options(words, &["--kinds"])?;
+    Ok(verdict(Ok(store::store(folder, &options.kinds)?)))
 }
 
 fn show(calls: &str, answers: &str) -> Result<ExitCode, String> {
@@ -236,7 +253,7 @@ fn command(words: &[String]) -> Result<ExitCode, String> {
         ["names", path, file, ..] => derived_names(path, file, &words[3..]),
         ["lister", path, ..] => lister(path, &words[2..]),
         ["ranker", path, ..] => ranker(path, &words[2..]),
-        ["store", folder] => Ok(verdict(Ok(store::store(folder)?))),
+        ["store", folder, ..] => store(folder, &words[2..]),
         ["show", calls, answers] => show(calls, answers),
         ["self"] => Ok(own_facts()),
         _ => Err(usage()),

@@ -7,8 +7,8 @@ use crate::kinds::{no_calls, Kind};
 use crate::mending::mended;
 use crate::mending_texts::*;
 use crate::random::Random;
+use crate::reading_kinds::Made;
 use crate::text_kinds::packed;
-use crate::utf8::Made;
 use crate::wire::{elements_of, Call, Shape, Width};
 use crate::words;
 
@@ -38,7 +38,7 @@ pub const MENDED: ByteKind = ByteKind {
     },
     growth: 3,
     stretch: 3,
-    bytes,
+    units: bytes,
     repeated: &REPEATED,
 };
 

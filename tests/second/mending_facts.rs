@@ -2,7 +2,7 @@
 // It runs no program and makes no cases; it holds only the definition of mending to account.
 
 use crate::byte_texts;
-use crate::facts::{refusal_of_bytes, ByteCase, Facts};
+use crate::facts::{refusal_of_units, Facts, UnitCase};
 use crate::joining::joined;
 use crate::letters::LIMIT;
 use crate::mending::{mended, Mending};
@@ -165,7 +165,7 @@ fn bytes_refused_for_mending(facts: &mut Facts) {
     let over = byte_texts::repeated(&pattern, LIMIT + 1);
     let ill = vec![0x80; LIMIT];
     let needed = 3 * 1_820 + 3 + 3;
-    let cases: [ByteCase; 9] = [
+    let cases: [UnitCase<u8>; 9] = [
         ("16384 bytes are mended", &full, needed, (0, 0)),
         ("16384 bytes need room", &full, needed - 1, (3, needed)),
         ("16385 bytes are not mended", &over, 60_000, (1, 16_384)),
@@ -177,7 +177,7 @@ fn bytes_refused_for_mending(facts: &mut Facts) {
         ("nothing is mended in no room", &[], 0, (0, 0)),
     ];
     for (fact, bytes, room, expected) in cases {
-        let refusal = refusal_of_bytes(MENDED.whole, bytes, room);
+        let refusal = refusal_of_units(MENDED.whole, bytes, room);
         facts.state(fact, refusal == expected);
     }
 }

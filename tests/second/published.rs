@@ -1,14 +1,17 @@
 // Holds a program to the Unicode Consortium's NormalizationTest.txt, within the rules' repertoire.
-// The file alone says what is right: full parts are taken for its NFD, and joining for its NFC.
+// The file alone says what is right: full parts are taken for its NFD, and joining for its NFC. So
+// is mending of UTF-16, of the same texts as units.
 
 use crate::cases::PARTS;
 use crate::compare::{differences, MOST_REPORTED};
 use crate::joining_cases::JOINED;
-use crate::kinds::{in_buffer, kind_of};
+use crate::kinds::{in_buffer, kind_of, Kind};
 use crate::letters::in_repertoire;
 use crate::run::Program;
 use crate::text_kinds::TextKind;
-use crate::wire::{Answer, Call, Width};
+use crate::unit_mending_cases::MENDED_UNITS;
+use crate::utf16::written;
+use crate::wire::{elements_of, Answer, Call, Width};
 use crate::words;
 use std::collections::HashSet;
 use std::fs;
@@ -27,39 +30,82 @@ struct Line {
     columns: Vec<Vec<u32>>,
 }
 
+/// What makes a form: a kind, and its call of a text with the answer that gives a form of it.
+struct Form {
+    kind: u32,
+    asked: fn(&[u32], &[u32]) -> (Call, Answer),
+}
+
+const PARTED: Form = Form {
+    kind: PARTS.number,
+    asked: |text, form| asked_in_codes(&PARTS, text, form),
+};
+const COMPOSED: Form = Form {
+    kind: JOINED.number,
+    asked: |text, form| asked_in_codes(&JOINED, text, form),
+};
+const COMPOSED_IN_UNITS: Form = Form {
+    kind: MENDED_UNITS.number,
+    asked: asked_in_units,
+};
+const FORMS: [Form; 3] = [COMPOSED, PARTED, COMPOSED_IN_UNITS];
+
+/// The room is enough for any answer that could be right.
+fn asked_in_codes(kind: &TextKind, text: &[u32], form: &[u32]) -> (Call, Answer) {
+    let call = kind.call(text, form.len().max(kind.growth * text.len()));
+    let answer = in_buffer(&call, Width::Number, Ok(form.to_vec()));
+    (call, answer)
+}
+
+fn asked_in_units(text: &[u32], form: &[u32]) -> (Call, Answer) {
+    let (text, form) = (written(text), written(form));
+    let call = MENDED_UNITS.call(&text, form.len().max(text.len()));
+    let answer = in_buffer(&call, Width::Unit, Ok(elements_of(&form)));
+    (call, answer)
+}
+
+impl Form {
+    fn is_among(&self, kinds: &[&Kind]) -> bool {
+        kinds.iter().any(|kind| kind.number == self.kind)
+    }
+
+    fn trial(&self, place: String, text: &[u32], form: &[u32]) -> Trial {
+        let (call, published) = (self.asked)(text, form);
+        Trial {
+            place,
+            call,
+            published,
+        }
+    }
+}
+
 /// One of the file's own rules: the form of each source is the result. Columns are numbered as in
 /// the file, from 1.
 struct Rule {
-    form: &'static TextKind,
+    form: Form,
     result: usize,
     sources: &'static [usize],
 }
 
-/// The rules for NFC and NFD: two of the canonical columns, and two of the compatibility columns.
-/// The latter hold for a line also where its canonical columns lie outside the repertoire.
-const CANONICAL: [Rule; 2] = [
+const fn rule(form: Form, result: usize, sources: &'static [usize]) -> Rule {
     Rule {
-        form: &JOINED,
-        result: 2,
-        sources: &[1, 2, 3],
-    },
-    Rule {
-        form: &PARTS,
-        result: 3,
-        sources: &[1, 2, 3],
-    },
+        form,
+        result,
+        sources,
+    }
+}
+
+/// The rules for NFC and NFD: those of the canonical columns, and those of the compatibility
+/// columns. The latter hold for a line also where its canonical columns lie outside the repertoire.
+const CANONICAL: [Rule; 3] = [
+    rule(COMPOSED, 2, &[1, 2, 3]),
+    rule(PARTED, 3, &[1, 2, 3]),
+    rule(COMPOSED_IN_UNITS, 2, &[1, 2, 3]),
 ];
-const COMPATIBILITY: [Rule; 2] = [
-    Rule {
-        form: &JOINED,
-        result: 4,
-        sources: &[4, 5],
-    },
-    Rule {
-        form: &PARTS,
-        result: 5,
-        sources: &[4, 5],
-    },
+const COMPATIBILITY: [Rule; 3] = [
+    rule(COMPOSED, 4, &[4, 5]),
+    rule(PARTED, 5, &[4, 5]),
+    rule(COMPOSED_IN_UNITS, 4, &[4, 5]),
 ];
 
 /// One call, what a file says to it, and where it says so.
@@ -80,27 +126,16 @@ impl Line {
         columns.all(|&number| self.column(number).iter().copied().all(in_repertoire))
     }
 
-    fn trials(&self, rules: &[Rule]) -> Vec<Trial> {
+    fn trials(&self, rules: &[Rule], kinds: &[&Kind]) -> Vec<Trial> {
         let mut trials = Vec::new();
-        for rule in rules {
+        for rule in rules.iter().filter(|rule| rule.form.is_among(kinds)) {
             for &source in rule.sources {
                 let (text, result) = (self.column(source), self.column(rule.result));
                 let place = format!("line {}: c{} of c{source}", self.number, rule.result);
-                trials.push(trial(place, rule.form, text, result));
+                trials.push(rule.form.trial(place, text, result));
             }
         }
         trials
-    }
-}
-
-/// The room is enough for any answer that could be right.
-fn trial(place: String, form: &TextKind, text: &[u32], expected: &[u32]) -> Trial {
-    let room = expected.len().max(form.growth * text.len());
-    let call = form.call(text, room);
-    Trial {
-        place,
-        published: in_buffer(&call, Width::Number, Ok(expected.to_vec())),
-        call,
     }
 }
 
@@ -164,12 +199,12 @@ fn unlisted_characters(lines: &[Line]) -> Vec<u32> {
     characters.filter(|code| !listed.contains(code)).collect()
 }
 
-fn trials_of_character(code: u32) -> Vec<Trial> {
+fn trials_of_character(code: u32, kinds: &[&Kind]) -> Vec<Trial> {
     let place = format!("{} in no line of part 1", words::code(code));
-    let forms = [&JOINED, &PARTS];
+    let forms = FORMS.iter().filter(|form| form.is_among(kinds));
     forms
-        .map(|form| trial(place.clone(), form, &[code], &[code]))
-        .into()
+        .map(|form| form.trial(place.clone(), &[code], &[code]))
+        .collect()
 }
 
 /// What is tried of a file, and how many lines and characters it is.
@@ -181,8 +216,12 @@ pub struct Trials {
     trials: Vec<Trial>,
 }
 
-/// An error tells that this is not the file, or not the whole of it.
-pub fn trials_of(text: &str) -> Result<Trials, String> {
+/// Of a program that has these kinds. An error tells that this is not the file, or not the whole of
+/// it, or that it says nothing of these kinds.
+pub fn trials_of(text: &str, kinds: &[&Kind]) -> Result<Trials, String> {
+    if !FORMS.iter().any(|form| form.is_among(kinds)) {
+        return Err("it has no form that these kinds make".to_string());
+    }
     let version = version(text, TITLE)?.to_string();
     let lines = lines_of(text)?;
     if !lines.iter().any(|line| line.in_part_one) {
@@ -192,11 +231,11 @@ pub fn trials_of(text: &str) -> Result<Trials, String> {
     let (mut canonical, mut compatibility) = (0, 0);
     for line in &lines {
         if line.is_for(&CANONICAL) {
-            trials.extend(line.trials(&CANONICAL));
+            trials.extend(line.trials(&CANONICAL, kinds));
             canonical += 1;
         }
         if line.is_for(&COMPATIBILITY) {
-            trials.extend(line.trials(&COMPATIBILITY));
+            trials.extend(line.trials(&COMPATIBILITY, kinds));
             compatibility += 1;
         }
     }
@@ -204,7 +243,9 @@ pub fn trials_of(text: &str) -> Result<Trials, String> {
         return Err("it has no line in the repertoire".to_string());
     }
     let characters = unlisted_characters(&lines);
-    trials.extend(characters.iter().copied().flat_map(trials_of_character));
+    for &code in &characters {
+        trials.extend(trials_of_character(code, kinds));
+    }
     Ok(Trials {
         version,
         lines: canonical,
@@ -253,9 +294,9 @@ pub fn try_all(program: &Program, trials: Vec<Trial>) -> Result<usize, Vec<Strin
 }
 
 /// Gives the closing line, or reports on what differs.
-pub fn check(program: &Program, path: &str) -> Result<String, Vec<String>> {
+pub fn check(program: &Program, path: &str, kinds: &[&Kind]) -> Result<String, Vec<String>> {
     let text = fs::read_to_string(path).map_err(|error| vec![format!("{path}: {error}")])?;
-    let tried = trials_of(&text).map_err(|trouble| vec![format!("{path}: {trouble}")])?;
+    let tried = trials_of(&text, kinds).map_err(|trouble| vec![format!("{path}: {trouble}")])?;
     let calls = try_all(program, tried.trials)?;
     println!(
         "{calls} calls agree; in {} lines the compatibility columns too",

@@ -4,7 +4,8 @@
 use crate::byte_kinds::ByteKind;
 use crate::byte_texts;
 use crate::kinds::{no_calls, Kind};
-use crate::utf8::{read, Made};
+use crate::reading_kinds::Made;
+use crate::utf8::read;
 use crate::wire::{Call, Shape, Width};
 use crate::words;
 
@@ -34,7 +35,7 @@ pub const READ: ByteKind = ByteKind {
     },
     growth: 1,
     stretch: 1,
-    bytes: byte_texts::bytes,
+    units: byte_texts::bytes,
     repeated: &byte_texts::REPEATED,
 };
 

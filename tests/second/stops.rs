@@ -1,7 +1,7 @@
 // What ends the program with no answer: unknown kinds, broken bounds, cut calls; and no input.
 // It does not judge good answers beyond those that stand before a stop.
 
-use crate::kinds::{kind_of, Kind, LAST_KIND, TABLE};
+use crate::kinds::{self, kind_of, Kind, LAST_KIND};
 use crate::run::{equal_front, Ending, Program};
 use crate::wire::{put_answer, put_call, put_number, Call, Shape};
 use crate::wire::{CALL_HEADER, MOST_ROOM};
@@ -106,7 +106,7 @@ fn unknown_kinds(stops: &mut Stops) {
 
 /// Good calls of the kinds that the program has not.
 fn other_kinds(stops: &mut Stops) {
-    for kind in TABLE.iter().copied() {
+    for kind in kinds::all() {
         if stops.kinds.iter().any(|known| known.number == kind.number) {
             continue;
         }

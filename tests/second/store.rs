@@ -1,7 +1,7 @@
 // Stores the small fixed calls with their expected answers as bytes, and shows such files in words.
 // It runs no program and judges no answer: showing prints what the files hold.
 
-use crate::kinds::{find, kind_of, TABLE};
+use crate::kinds::{find, kind_of, Kind};
 use crate::wire::{get_answer, get_call, put_answer, put_call, Call, Cursor};
 use crate::words;
 use std::fs;
@@ -15,13 +15,10 @@ fn read(path: &str) -> Result<Vec<u8>, String> {
     fs::read(path).map_err(|error| format!("{path}: {error}"))
 }
 
-/// Writes the files stdin and stdout into the folder, which is made where it is missing.
-pub fn store(folder: &str) -> Result<String, String> {
-    let calls: Vec<Call> = TABLE
-        .iter()
-        .copied()
-        .flat_map(|kind| (kind.stored)())
-        .collect();
+/// Writes the files stdin and stdout, for a program that has these kinds, into the folder, which is
+/// made where it is missing.
+pub fn store(folder: &str, kinds: &[&'static Kind]) -> Result<String, String> {
+    let calls: Vec<Call> = kinds.iter().flat_map(|kind| (kind.stored)()).collect();
     let (mut input, mut output) = (Vec::new(), Vec::new());
     for call in &calls {
         let kind = kind_of(call);

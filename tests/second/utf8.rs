@@ -1,8 +1,6 @@
 // The definitions of reading and writing UTF-8, from the Unicode Standard, chapter 3.
 // It makes no cases and knows no wire form; it aims at plainness, not at speed.
 
-use crate::letters::{check_length, check_room, Refusal};
-
 /// What an ill-formed subpart is read as.
 pub const REPLACEMENT: u32 = 0xFFFD;
 
@@ -152,20 +150,4 @@ pub fn written_code(code: u32) -> Vec<u8> {
 
 pub fn written(text: &[u32]) -> Vec<u8> {
     text.iter().flat_map(|&code| written_code(code)).collect()
-}
-
-/// What a call makes of bytes, as elements of its lent buffer.
-pub struct Made {
-    pub elements: Vec<u32>,
-    /// How many ill-formed subparts were read on the way.
-    pub ill_formed: u32,
-}
-
-/// The scheme of every call that reads bytes; `whole` is what it makes of them. It refuses no byte:
-/// the checks are 1, of the bytes given, then 3, of the elements made.
-pub fn answer_of_bytes(bytes: &[u8], room: u32, whole: fn(&[u8]) -> Made) -> Result<Made, Refusal> {
-    check_length(bytes.len())?;
-    let made = whole(bytes);
-    check_room(made.elements.len(), room)?;
-    Ok(made)
 }

@@ -2,7 +2,7 @@
 // It runs no program and makes no cases; it holds only the definitions of UTF-8 to account.
 
 use crate::byte_texts::{self, MIXED_TEXT, PLACED};
-use crate::facts::{refusal, refusal_of_bytes, ByteCase, Facts, TextCase};
+use crate::facts::{refusal, refusal_of_units, Facts, TextCase, UnitCase};
 use crate::letters::{is_bad, LIMIT};
 use crate::random::Random;
 use crate::reading_cases::READ;
@@ -263,7 +263,7 @@ fn bytes_refused_for_reading(facts: &mut Facts) {
     let full = byte_texts::repeated(&[0xEA, 0xB0, 0x81], LIMIT);
     let over = byte_texts::repeated(&[0xEA, 0xB0, 0x81], LIMIT + 1);
     let ill = vec![0x80; LIMIT];
-    let cases: [ByteCase; 8] = [
+    let cases: [UnitCase<u8>; 8] = [
         ("16384 bytes are taken", &full, 5_462, (0, 0)),
         ("16384 bytes need their room", &full, 5_461, (3, 5_462)),
         ("16385 bytes are refused", &over, 60_000, (1, 16_384)),
@@ -274,7 +274,7 @@ fn bytes_refused_for_reading(facts: &mut Facts) {
         ("no bytes need no room", &[], 0, (0, 0)),
     ];
     for (fact, bytes, room, expected) in cases {
-        facts.state(fact, refusal_of_bytes(READ.whole, bytes, room) == expected);
+        facts.state(fact, refusal_of_units(READ.whole, bytes, room) == expected);
     }
 }
 

@@ -10,10 +10,11 @@ pub const MOST_ELEMENTS: u32 = 20_000;
 pub const MOST_IMAGE_BYTES: u32 = 66_000;
 pub const MOST_ROOM: u32 = 120_000;
 
-/// An element is a byte, or a number of 32 bits (a code point).
+/// An element is a byte, a unit of 16 bits, or a number of 32 bits (a code point).
 #[derive(Clone, Copy, Debug, PartialEq, Eq)]
 pub enum Width {
     Byte,
+    Unit,
     Number,
 }
 
@@ -21,6 +22,7 @@ impl Width {
     pub fn bytes(self) -> usize {
         match self {
             Width::Byte => 1,
+            Width::Unit => 2,
             Width::Number => 4,
         }
     }
@@ -29,6 +31,7 @@ impl Width {
     pub fn untouched(self) -> u32 {
         match self {
             Width::Byte => 0xA5,
+            Width::Unit => 0xA5A5,
             Width::Number => 0xA5A5_A5A5,
         }
     }
@@ -73,6 +76,24 @@ impl Shape {
     pub const CODES_TO_BYTES: Shape = Shape {
         lent: Width::Byte,
         ..Shape::CODES
+    };
+
+    /// Units in, code points out.
+    pub const UNITS_TO_CODES: Shape = Shape {
+        a: Width::Unit,
+        ..Shape::CODES
+    };
+
+    /// Code points in, units out.
+    pub const CODES_TO_UNITS: Shape = Shape {
+        lent: Width::Unit,
+        ..Shape::CODES
+    };
+
+    /// Units in, units out.
+    pub const UNITS: Shape = Shape {
+        lent: Width::Unit,
+        ..Shape::UNITS_TO_CODES
     };
 
     /// Two texts in, of code points.
@@ -160,14 +181,26 @@ impl Call {
     }
 }
 
-/// The elements that bytes are on the wire of a kind that takes bytes.
-pub fn elements_of(bytes: &[u8]) -> Vec<u32> {
-    bytes.iter().copied().map(u32::from).collect()
+/// A code unit: a byte of UTF-8, or 16 bits of UTF-16.
+pub trait CodeUnit: Copy + From<u8> + Into<u32> + TryFrom<u32> {}
+
+impl CodeUnit for u8 {}
+impl CodeUnit for u16 {}
+
+/// The elements that code units are on the wire of a kind that takes them.
+pub fn elements_of<Unit: CodeUnit>(units: &[Unit]) -> Vec<u32> {
+    units.iter().copied().map(Unit::into).collect()
 }
 
-/// The bytes that such elements stand for.
+/// The code units that such elements stand for.
+pub fn units_of<Unit: CodeUnit>(elements: &[u32]) -> Vec<Unit> {
+    let unit = |&element| Unit::try_from(element).ok();
+    let units = elements.iter().map(unit).collect::<Option<Vec<Unit>>>();
+    units.expect("an element is one code unit")
+}
+
 pub fn bytes_of(elements: &[u32]) -> Vec<u8> {
-    elements.iter().map(|&element| element as u8).collect()
+    units_of(elements)
 }
 
 pub fn put_number(number: u32, bytes: &mut Vec<u8>) {
@@ -178,6 +211,7 @@ fn put_elements(elements: &[u32], width: Width, bytes: &mut Vec<u8>) {
     for &element in elements {
         match width {
             Width::Byte => bytes.push(element as u8),
+            Width::Unit => bytes.extend_from_slice(&(element as u16).to_le_bytes()),
             Width::Number => put_number(element, bytes),
         }
     }

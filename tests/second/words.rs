@@ -17,7 +17,7 @@ pub fn code(code: u32) -> String {
 fn element(element: u32, width: Width) -> String {
     match width {
         Width::Byte => format!("{element:02X}"),
-        Width::Number => code(element),
+        Width::Unit | Width::Number => code(element),
     }
 }
 
@@ -72,6 +72,11 @@ pub fn bytes_argument(call: &Call) -> String {
     elements_argument(call, Width::Byte)
 }
 
+/// The arguments of a kind that takes units and a lent buffer.
+pub fn units_argument(call: &Call) -> String {
+    elements_argument(call, Width::Unit)
+}
+
 fn elements_argument(call: &Call, width: Width) -> String {
     if call.a.is_empty() {
         return format!("no text room {}", call.room);
@@ -118,6 +123,11 @@ pub fn bytes_in_buffer(_call: &Call, answer: &Answer) -> String {
     in_buffer(answer, Width::Byte) + &unexpected_values(answer.second, answer.third)
 }
 
+/// The answer of a kind that fills the lent buffer with units.
+pub fn units_in_buffer(_call: &Call, answer: &Answer) -> String {
+    in_buffer(answer, Width::Unit) + &unexpected_values(answer.second, answer.third)
+}
+
 /// The answer of a kind that fills the lent buffer with code points and counts what it mended.
 pub fn codes_and_subparts(_call: &Call, answer: &Answer) -> String {
     with_subparts(answer, Width::Number)
@@ -126,6 +136,11 @@ pub fn codes_and_subparts(_call: &Call, answer: &Answer) -> String {
 /// The answer of a kind that fills the lent buffer with bytes and counts what it mended.
 pub fn bytes_and_subparts(_call: &Call, answer: &Answer) -> String {
     with_subparts(answer, Width::Byte)
+}
+
+/// The answer of a kind that fills the lent buffer with units and counts what it mended.
+pub fn units_and_unpaired(_call: &Call, answer: &Answer) -> String {
+    with_subparts(answer, Width::Unit)
 }
 
 fn with_subparts(answer: &Answer, width: Width) -> String {

@@ -166,3 +166,6 @@ taken-all text e =
 
 pub taken-good : (text : List ℕ) → takesText text ≡ passes → (i : ℕ) → i < length text → bad (getD text i 0) ≡ false
 taken-good text e i h = all-at 0 (taken-all text e) i h
+
+pub taken-most : (text : List ℕ) → takesText text ≡ passes → (i : ℕ) → i < length text → getD text i 0 ≤ 0x10FFFF
+taken-most text e i h = good-most (getD text i 0) (taken-good text e i h)

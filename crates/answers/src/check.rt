@@ -2,7 +2,7 @@
 use crate::answer::Checked;
 use crate::refusal::Refusal;
 ghost use mathlib.Core.Path.{_≡_};
-ghost use Rattle.answers.specs.Checks.{bad, firstBad, takesBytes, takesText};
+ghost use Rattle.answers.specs.Checks.{bad, firstBad, takesBytes, takesText, takesUnits};
 ghost use Rattle.answers.specs.Answers.{checked};
 
 // Over 10FFFF, or a surrogate.
@@ -30,7 +30,7 @@ pub fn first_bad(text: &[u32]) -> usize
     i
 }
 
-// The most code points or bytes that a call takes.
+// The most code points, bytes or 16-bit units that a call takes.
 pub const LIMIT: usize = 16384;
 
 // The checks that a text of code points has to pass before anything is made of it: 1, then 2.
@@ -52,6 +52,16 @@ pub fn check_bytes(bytes: &[u8]) -> Checked
     ensures { λ r. ⌜ checked r ≡ takesBytes (now (bytes .entry)) ⌝ }
 {
     if LIMIT < bytes.len() {
+        return Checked::Refused(Refusal::OverLimit(LIMIT));
+    }
+    Checked::Passed
+}
+
+// The check that a text of 16-bit code units has to pass: 1.
+pub fn check_units(units: &[u16]) -> Checked
+    ensures { λ r. ⌜ checked r ≡ takesUnits (now (units .entry)) ⌝ }
+{
+    if LIMIT < units.len() {
         return Checked::Refused(Refusal::OverLimit(LIMIT));
     }
     Checked::Passed

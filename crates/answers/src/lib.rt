@@ -10,6 +10,7 @@ pub use answer::lacking;
 pub use check::LIMIT;
 pub use check::check_bytes;
 pub use check::check_text;
+pub use check::check_units;
 pub use check::first_bad;
 pub use check::is_bad;
 pub use refusal::Refusal;

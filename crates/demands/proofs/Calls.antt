@@ -18,10 +18,13 @@ use Rattle.answers.specs.Answers.{Makes}
 use Rattle.answers.specs.declared.answer.Filled.{Filled}
 use Rattle.letters.specs.Syllables.{isSyllable, fullParts}
 use Rattle.joining.specs.Joining.{join as joins}
+use Rattle.encodings.specs.Reading.{ReadsIn}
 use Rattle.encodings.specs.declared.answer.Read.{Read}
 use Rattle.utf8.specs.Utf8.{readText, writeText}
 use Rattle.utf8.specs.Reading.{Reads}
 use Rattle.mending.specs.Mending.{mended}
+use Rattle.utf16.specs.Utf16.{form16, readUnits, writeUnits}
+use Rattle.mending_units.specs.Mending.{mendedUnits}
 use Rattle.names.specs.Names.{nameOf, named}
 use Rattle.names.specs.Naming.{noSyllable, noName}
 use Rattle.clusters.specs.Simple.{simple}
@@ -138,6 +141,10 @@ pub check-bytes : rows.CheckBytes
 unfolding takesUnits
 check-bytes bytes r e = answered-one (ap rows.asVerdict e ∙ as-verdict (takesBytes bytes))
 
+pub check-units : rows.CheckUnits
+unfolding takesUnits
+check-units units r e = answered-one (ap rows.asVerdict e ∙ as-verdict (takesUnits units))
+
 -- ---- letters
 
 pub sorter : rows.Sorter
@@ -146,7 +153,7 @@ sorter code r e = answered-one e
 pub one-step : rows.OneStep
 one-step code r e = answered-one e
 
--- ---- what a call from text to text promises, and one from bytes
+-- ---- what a call from text to text promises, one from bytes, and one from units
 
 of-text : (make : List ℕ → List ℕ) (text out out′ : List ℕ) (r : Filled) → Makes make text out r out′ → rows.OfText make text out r out′
 unfolding takesText
@@ -155,6 +162,10 @@ of-text make text out out′ r h = filled-demanded (overLimit 16384 (length text
 of-bytes : (make : List ℕ → List ℕ) (text out out′ : List ℕ) (r : Read) → Reads make text out r out′ → rows.OfBytes make text out r out′
 unfolding takesUnits
 of-bytes make text out out′ r h = filled-alone (h .fills)
+
+of-units : (make : List ℕ → List ℕ) (text out out′ : List ℕ) (r : Read) → ReadsIn form16 make text out r out′ → rows.OfUnits make text out r out′
+unfolding takesUnits
+of-units make text out out′ r h = filled-alone (h .fills)
 
 pub full-parts : rows.FullParts
 full-parts = of-text fullParts
@@ -176,6 +187,19 @@ write-text = of-text writeText
 
 pub mend : rows.Mend
 mend = of-bytes mended
+
+-- ---- utf16
+
+pub read-units : rows.ReadUnits
+read-units = of-units readUnits
+
+pub write-units : rows.WriteUnits
+write-units = of-text writeUnits
+
+-- ---- mending_units
+
+pub mend-units : rows.MendUnits
+mend-units = of-units mendedUnits
 
 -- ---- names
 
@@ -253,6 +277,11 @@ pub mend-for-c : rows.MendForC
 unfolding takesUnits
 mend-for-c text out out′ r h =
     filled-for-c counted-for-c (overLimit 16384 (length text)) (mended text) out (limit-numbered 16384 (length text)) (h .answers) (h .leaves)
+
+pub mend-units-for-c : rows.MendUnitsForC
+unfolding takesUnits
+mend-units-for-c text out out′ r h =
+    filled-for-c counted-for-c (overLimit 16384 (length text)) (mendedUnits text) out (limit-numbered 16384 (length text)) (h .answers) (h .leaves)
 
 pub name-for-c : rows.NameForC
 name-for-c code out out′ r h = filled-for-c plain-for-c (noSyllable code) (nameOf code) out (syllable-numbered code) (h .answers) (h .leaves)

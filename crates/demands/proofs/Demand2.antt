@@ -16,11 +16,15 @@ use Rattle.normal.specs.Forms.{nfd}
 use Rattle.normal.proofs.Conjoining.{nfd-parts, nfc-join}
 use Rattle.normal.proofs.Repertoire.{parts-are-nfd, joined-equivalent, joined-is-nfc}
 use Rattle.encodings.specs.Pieces.{pieces}
+use Rattle.encodings.specs.Forms.{Form, illIn}
+use Rattle.encodings.specs.Reading.{ReadsIn}
+use Rattle.encodings.specs.declared.answer.Counted.{Counted}
+use Rattle.encodings.specs.declared.answer.Read.the-variants.{Done as ReadDone}
 use Rattle.encodings.proofs.Texts.{reading-in, reading-in-unique}
 use Rattle.utf8.specs.Table37.{kindOf}
 use Rattle.utf8.specs.Utf8.{readText}
 use Rattle.utf8.proofs.Round.{encodes8}
-use Rattle.mending.specs.Mending.{mendedIn}
+use Rattle.mending.specs.Mending.{mendedIn, mended}
 use Rattle.names.specs.Names.{nameOf}
 use Rattle.names.proofs.Lengths.{syllable-name-most}
 use Rattle.names.proofs.NR1.{name-nr1}
@@ -28,8 +32,15 @@ use Rattle.names.proofs.Found.{passes-syllable, names-whole, names-unique, read
 use Rattle.demands.specs.Demand2 as demand
 
 -- what a call that is done made of a text
-made : (make : List ℕ → List ℕ) {text out out′ : List ℕ} {n : ℕ} → Makes make text out (Done n) out′ → take n out′ ≡ make text
+pub made : (make : List ℕ → List ℕ) {text out out′ : List ℕ} {n : ℕ} → Makes make text out (Done n) out′ → take n out′ ≡ make text
 made make h = fills-front (h .fills) (fills-done (h .fills) .1)
+
+-- and of bytes or units, with what it counted
+pub made-in : {f : Form} (make : List ℕ → List ℕ) {text out out′ : List ℕ} {c : Counted} → ReadsIn f make text out (ReadDone c) out′
+    → (take (c .length) out′ ≡ make text) × (c .ills ≡ illIn f text)
+made-in make h =
+    let d = fills-done (h .fills) in
+    (fills-front (h .fills) (ap (λ c. c .length) (d .1)), ap (λ c. c .ills) (d .1))
 
 -- what a call that is done answers
 answer-is : {Value : Type 0} {answer value : Value} (check : Check) → done answer ≡ verdict check value → answer ≡ value
@@ -59,19 +70,19 @@ joining-keeps ucd u text out out′ n h = ap (nfd ucd) (made _ h) ∙ joined-equ
 
 pub reading-utf8 : demand.ReadingUtf8
 reading-utf8 text out out′ c h =
-    let d = fills-done (h .fills) in
+    let m = made-in readText h in
     record {
       pieces = pieces kindOf text;
       read = reading-in encodes8 text;
-      codes-are = λ P r. fills-front (h .fills) (ap (λ c. c .length) (d .1)) ∙ rw (reading-in-unique encodes8 r);
-      ills-are = λ P r. ap (λ c. c .ills) (d .1) ∙ rw (reading-in-unique encodes8 r);
+      codes-are = λ P r. m .0 ∙ rw (reading-in-unique encodes8 r);
+      ills-are = λ P r. m .1 ∙ rw (reading-in-unique encodes8 r);
     }
 
 pub mending : demand.Mending
 unfolding mendedIn
 mending text out out′ c h P r =
-    let d = fills-done (h .fills) in
-    (fills-front (h .fills) (ap (λ c. c .length) (d .1)) ∙ rw (reading-in-unique encodes8 r, nfc-join (readText text)), ap (λ c. c .ills) (d .1) ∙ rw (reading-in-unique encodes8 r))
+    let m = made-in mended h in
+    (m .0 ∙ rw (reading-in-unique encodes8 r, nfc-join (readText text)), m .1 ∙ rw (reading-in-unique encodes8 r))
 
 pub naming : demand.Naming
 naming code out out′ n h =

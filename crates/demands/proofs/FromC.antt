@@ -10,13 +10,17 @@ use Rattle.answers.specs.Checks.{Check, passes, refuses, inOrder, takesBytes, t
 use Rattle.answers.specs.Verdicts.{Verdict, verdict, fits}
 use Rattle.answers.specs.declared.answer.Filled.the-variants.{Done}
 use Rattle.answers.proofs.Verdicts.{fills-done, fills-front}
+use Rattle.encodings.specs.Forms.{Form, illIn}
+use Rattle.encodings.specs.Reading.{countedIn, ReadsIn}
 use Rattle.encodings.specs.declared.answer.Read.the-variants.{Done as ReadDone}
 use Rattle.encodings.proofs.Texts.{reading-in-unique}
-use Rattle.utf8.specs.Utf8.{illText}
-use Rattle.utf8.specs.Reading.{countedOf, Reads}
+use Rattle.utf8.specs.Reading.{countedOf}
 use Rattle.utf8.proofs.Round.{encodes8}
-use Rattle.mending.specs.Mending.{mended}
+use Rattle.mending.specs.Mending.{mendedIn, mended}
 use Rattle.mending.proofs.Damage.{done-filled}
+use Rattle.utf16.specs.Utf16.{form16}
+use Rattle.utf16.proofs.Forms.{encodes16}
+use Rattle.mending_units.specs.Mending.{mendedUnits}
 use Rattle.names.specs.Names.{nameOf, named}
 use Rattle.names.specs.Naming.{noSyllable, noName, syllableOr, Names}
 use Rattle.names.proofs.Found.{passes-syllable, name-reads}
@@ -25,10 +29,11 @@ use Rattle.ranking.specs.declared.order.Order.{Order}
 use Rattle.ranking.specs.declared.order.Order.the-variants.{Before, Equal, After}
 use Rattle.ranking.proofs.Orders.{chain-most}
 use Rattle.ranking.proofs.Ranks.{bytes-swapped, bytes-chain, same-mended-equal}
-use Rattle.pulphopper.specs.Replies.{plainAnswer, Mends, NamesForC, RanksForC}
+use Rattle.pulphopper.specs.Replies.{plainAnswer, MendsIn, NamesForC, RanksForC}
 use Rattle.pulphopper.specs.declared.answer.Answer.{Answer}
 use Rattle.demands.specs.FromC as demand
 use Rattle.demands.proofs.Accident.{one-boat}
+use Rattle.demands.proofs.Clipboard.{one-boat-units}
 use Rattle.demands.proofs.Calls.{Numbered, numbered-both, limit-numbered, fits-numbered, syllable-numbered, name-numbered, Tells, counted-for-c, plain-for-c, order-for-c}
 
 -- ---- a call that refuses nothing passed its checks, and answers its value
@@ -43,19 +48,21 @@ bytes-numbered : (bytes : List ℕ) → Numbered (takesBytes bytes)
 unfolding takesUnits
 bytes-numbered bytes = limit-numbered 16384 (length bytes)
 
--- ---- mending
+-- ---- mending, in any encoding form
 
-module _ {text out out′ : List ℕ} {r : Answer} (h : Mends text out r out′) (z : r .refusal ≡ 0) where
-  mended-passed : fits (takesBytes text) (mended text) out ≡ passes
+module _ {f : Form} {text out out′ : List ℕ} {r : Answer} (h : MendsIn f text out r out′) (z : r .refusal ≡ 0) where
+  mended-passed : fits (takesUnits text) (mendedIn f text) out ≡ passes
   mended-passed =
-      unrefused counted-for-c (fits (takesBytes text) (mended text) out) (fits-numbered (takesBytes text) (mended text) out (bytes-numbered text))
-      (countedOf mended text) (h .answers) z
+      unrefused counted-for-c (fits (takesUnits text) (mendedIn f text) out) (fits-numbered (takesUnits text) (mendedIn f text) out (bytes-numbered text))
+      (countedIn f (mendedIn f) text) (h .answers) z
 
-  mended-told : r ≡ record { refusal = 0; count = illText text; value = length (mended text) }
+  mended-told : r ≡ record { refusal = 0; count = illIn f text; value = length (mendedIn f text) }
   mended-told = rw mended-passed at (h .answers)
 
-  mended-call : Reads mended text out (ReadDone (countedOf mended text)) out′
+  mended-call : ReadsIn f (mendedIn f) text out (ReadDone (countedIn f (mendedIn f) text)) out′
   mended-call = record { fills = record { answers = rw mended-passed; leaves = h .leaves } }
+
+-- ---- at UTF-8
 
 pub mended-from-c : demand.MendedFromC
 mended-from-c text out out′ r h z = record {
@@ -72,6 +79,24 @@ one-boat-from-c name out out′ other other′ r q good h k y z =
 
 pub counted-from-c : demand.CountedFromC
 counted-from-c text out out′ r h z P read = ap (λ (a : Answer). a .count) (mended-told h z) ∙ rw (reading-in-unique encodes8 read)
+
+-- ---- and at UTF-16
+
+pub mended-units-from-c : demand.MendedUnitsFromC
+mended-units-from-c text out out′ r h z = record {
+  lent = out;
+  after = out′;
+  answer = countedIn form16 mendedUnits text;
+  call = mended-call h z;
+  is = ap (λ (a : Answer). take (a .value) out′) (mended-told h z);
+}
+
+pub one-boat-units-from-c : demand.OneBoatUnitsFromC
+one-boat-units-from-c name out out′ other other′ r q good h k y z =
+    one-boat-units name _ _ good (mended-units-from-c _ out out′ r h y) (mended-units-from-c _ other other′ q k z)
+
+pub counted-units-from-c : demand.CountedUnitsFromC
+counted-units-from-c text out out′ r h z P read = ap (λ (a : Answer). a .count) (mended-told h z) ∙ rw (reading-in-unique encodes16 read)
 
 -- ---- names
 

@@ -1,4 +1,4 @@
--- Demand 1, at each of the 26 calls that check something: a row for each, with the name of the
+-- Demand 1, at each of the 31 calls that check something: a row for each, with the name of the
 -- call, what it is given, what its contract says of its result, and `Demand1` with its checks in
 -- document 01's order. The contract of a row is that of the code, word for word (tests/premises
 -- compares them). A function that checks nothing has no row: its contract, an equation, says all of
@@ -8,7 +8,7 @@ use mathlib.Core.List.{List, [], _∷_}
 use Prim.Native.Nat.{ℕ, zero, suc}
 use lib.ListN.{length}
 use Rattle.laws.specs.Writing.{front}
-use Rattle.answers.specs.Checks.{Check, passes, refuses, overLimit, badCodePoint, noRoom, takesText, takesBytes}
+use Rattle.answers.specs.Checks.{Check, passes, refuses, overLimit, badCodePoint, noRoom, takesText, takesBytes, takesUnits}
 use Rattle.answers.specs.Verdicts.{Verdict, done, refused, verdict}
 use Rattle.answers.specs.Answers.{checked, filled, Makes}
 use Rattle.answers.specs.declared.answer.Checked.{Checked}
@@ -19,11 +19,13 @@ use Rattle.letters.specs.Answers.{sorted, stepped}
 use Rattle.letters.specs.declared.sort.Sorted.{Sorted}
 use Rattle.letters.specs.declared.step.Stepped.{Stepped as OneStepped}
 use Rattle.joining.specs.Joining.{join}
-use Rattle.encodings.specs.Reading.{readAs}
+use Rattle.encodings.specs.Reading.{readAs, countedIn, ReadsIn}
 use Rattle.encodings.specs.declared.answer.Read.{Read}
 use Rattle.utf8.specs.Utf8.{readText, illText, writeText}
 use Rattle.utf8.specs.Reading.{countedOf, Reads}
 use Rattle.mending.specs.Mending.{mended}
+use Rattle.utf16.specs.Utf16.{form16, readUnits, unpaired, writeUnits}
+use Rattle.mending_units.specs.Mending.{mendedUnits}
 use Rattle.names.specs.Names.{nameOf, named}
 use Rattle.names.specs.Naming.{noSyllable, noName, syllableOr, namedAs, Names, ReadsName}
 use Rattle.names.specs.declared.read.Named.{Named}
@@ -40,7 +42,7 @@ use Rattle.labels.specs.declared.write.Form.{Form}
 use Rattle.sorting.specs.Sorting.{orderOf, Orders}
 use Rattle.sorting.specs.Printing.{printed, Prints}
 use Rattle.listing.specs.Listing.{listed as lines, Lists}
-use Rattle.pulphopper.specs.Replies.{Mends, NamesForC, ReadsNameForC, RanksForC}
+use Rattle.pulphopper.specs.Replies.{Mends, MendsUnits, NamesForC, ReadsNameForC, RanksForC}
 use Rattle.pulphopper.specs.declared.answer.Answer.{Answer}
 use Rattle.demands.specs.Demand1.{Demand1}
 
@@ -78,6 +80,12 @@ CheckBytes =
     (bytes : List ℕ) (r : Checked) → checked r ≡ takesBytes bytes
     → Demand1 {A = ℕ} (overLimit 16384 (length bytes) ∷ []) tt [] [] (asVerdict (checked r)) []
 
+-- `answers::check_units`: 1
+abbrev pub CheckUnits : Type 0
+CheckUnits =
+    (units : List ℕ) (r : Checked) → checked r ≡ takesUnits units
+    → Demand1 {A = ℕ} (overLimit 16384 (length units) ∷ []) tt [] [] (asVerdict (checked r)) []
+
 -- ---- letters
 
 -- `letters::sorter`: 2
@@ -106,6 +114,13 @@ OfBytes make text out r out′ =
     Demand1 (overLimit 16384 (length text) ∷ noRoom (length out) (length (make text)) ∷ []) (countedOf make text)
     out (front (make text) out) (readAs r) out′
 
+-- and one from 16-bit units: 1, then 3; the answer is the length and the number of unpaired
+-- surrogates
+abbrev pub OfUnits : (List ℕ → List ℕ) → List ℕ → List ℕ → Read → List ℕ → Type 0
+OfUnits make text out r out′ =
+    Demand1 (overLimit 16384 (length text) ∷ noRoom (length out) (length (make text)) ∷ []) (countedIn form16 make text)
+    out (front (make text) out) (readAs r) out′
+
 -- `letters::full_parts`: 1, 2, 3
 abbrev pub FullParts : Type 0
 FullParts = (text out out′ : List ℕ) (r : Filled) → Makes fullParts text out r out′ → OfText fullParts text out r out′
@@ -131,6 +146,22 @@ WriteText = (text out out′ : List ℕ) (r : Filled) → Makes writeText text o
 -- `mending::mend`: 1, 3
 abbrev pub Mend : Type 0
 Mend = (text out out′ : List ℕ) (r : Read) → Reads mended text out r out′ → OfBytes mended text out r out′
+
+-- ---- utf16
+
+-- `utf16::read_units`: 1, 3
+abbrev pub ReadUnits : Type 0
+ReadUnits = (text out out′ : List ℕ) (r : Read) → ReadsIn form16 readUnits text out r out′ → OfUnits readUnits text out r out′
+
+-- `utf16::write_units`: 1, 2, 3
+abbrev pub WriteUnits : Type 0
+WriteUnits = (text out out′ : List ℕ) (r : Filled) → Makes writeUnits text out r out′ → OfText writeUnits text out r out′
+
+-- ---- mending_units
+
+-- `mending_units::mend`: 1, 3
+abbrev pub MendUnits : Type 0
+MendUnits = (text out out′ : List ℕ) (r : Read) → ReadsIn form16 mendedUnits text out r out′ → OfUnits mendedUnits text out r out′
 
 -- ---- names
 
@@ -234,6 +265,13 @@ MendForC =
     (text out out′ : List ℕ) (r : Answer) → Mends text out r out′
     → ForC r (Demand1 (overLimit 16384 (length text) ∷ noRoom (length out) (length (mended text)) ∷ []) (length (mended text), illText text)
     out (front (mended text) out) (asC r) out′)
+
+-- `pulphopper::pulphopper_mend_units`: 1, 3
+abbrev pub MendUnitsForC : Type 0
+MendUnitsForC =
+    (text out out′ : List ℕ) (r : Answer) → MendsUnits text out r out′
+    → ForC r (Demand1 (overLimit 16384 (length text) ∷ noRoom (length out) (length (mendedUnits text)) ∷ []) (length (mendedUnits text), unpaired text)
+    out (front (mendedUnits text) out) (asC r) out′)
 
 -- `pulphopper::pulphopper_name`: 4, 3
 abbrev pub NameForC : Type 0

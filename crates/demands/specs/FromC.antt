@@ -1,8 +1,8 @@
 -- The demands over the calls that the drawing program makes, from C. What such a call does if it
--- refuses nothing is what the call below it does (`MendedFromC`, `NamedFromC`, `ReadFromC`), so
--- that what specs/Accident, Demand2 and Demand3 say of that call holds of it; and what the header
--- promises beside that: one boat, the count, a name read back, an order to sort by. Statements over
--- any results that the contracts of the calls for C admit; nothing is proved here.
+-- refuses nothing is what the call below it does (`MendedFromC`, `MendedUnitsFromC`, `NamedFromC`,
+-- `ReadFromC`), so that what specs/Accident, Demand2 and Demand3 say of that call holds of it; and
+-- what the header promises beside that: one boat, the count, a name read back, an order to sort by.
+-- Statements over any results that the contracts of the calls for C admit; nothing is proved here.
 use mathlib.Core.Path.{_≡_}
 use mathlib.Core.Bool.{false}
 use mathlib.Core.List.{List}
@@ -14,13 +14,16 @@ use Rattle.answers.specs.declared.answer.Filled.the-variants.{Done}
 use Rattle.letters.specs.Syllables.{fullParts}
 use Rattle.encodings.specs.Pieces.{Piece, illCount}
 use Rattle.encodings.specs.Readings.{Reading}
+use Rattle.encodings.specs.Rows.{kindBy}
 use Rattle.utf8.specs.Table37.{kindOf}
 use Rattle.utf8.specs.Utf8.{writeText}
+use Rattle.utf16.specs.Utf16.{tableD91, writeUnits}
 use Rattle.names.specs.Naming.{Names, ReadsName}
 use Rattle.names.specs.declared.read.Named.the-variants.{Syllable}
-use Rattle.pulphopper.specs.Replies.{Mends, NamesForC, ReadsNameForC, RanksForC}
+use Rattle.pulphopper.specs.Replies.{Mends, MendsUnits, NamesForC, ReadsNameForC, RanksForC}
 use Rattle.pulphopper.specs.declared.answer.Answer.{Answer}
 use Rattle.demands.specs.Accident.{Mended}
+use Rattle.demands.specs.Clipboard.{MendedUnits}
 
 -- ---- mending
 
@@ -40,6 +43,22 @@ OneBoatFromC =
 abbrev pub CountedFromC : Type 0
 CountedFromC =
     (text out out′ : List ℕ) (r : Answer) → Mends text out r out′ → r .refusal ≡ 0 → (P : List (Piece ℕ)) → Reading kindOf text P → r .count ≡ illCount P
+
+-- the same of `pulphopper_mend_units`: specs/Clipboard and Demand3Units speak of what it wrote
+abbrev pub MendedUnitsFromC : Type 0
+MendedUnitsFromC = (text out out′ : List ℕ) (r : Answer) → MendsUnits text out r out′ → r .refusal ≡ 0 → MendedUnits text (take (r .value) out′)
+
+abbrev pub OneBoatUnitsFromC : Type 0
+OneBoatUnitsFromC =
+    (name out out′ other other′ : List ℕ) (r q : Answer) → All (λ c. bad c ≡ false) name
+    → MendsUnits (writeUnits name) out r out′ → MendsUnits (writeUnits (fullParts name)) other q other′ → r .refusal ≡ 0 → q .refusal ≡ 0
+    → take (r .value) out′ ≡ take (q .value) other′
+
+-- the count is that of the unpaired surrogates in the Standard's reading of the units
+abbrev pub CountedUnitsFromC : Type 0
+CountedUnitsFromC =
+    (text out out′ : List ℕ) (r : Answer) → MendsUnits text out r out′ → r .refusal ≡ 0 → (P : List (Piece ℕ)) → Reading (kindBy tableD91) text P
+    → r .count ≡ illCount P
 
 -- ---- names
 

@@ -5,16 +5,17 @@
 --
 -- In order: kinds exclude each other; kinds with more units; where a maximal subpart is; the pieces
 -- are the reading (`reading`); the first piece of a reading, and that two are equal; the reading is
--- unique (`unique`, `reading-pieces`).
+-- unique (`unique`, `reading-pieces`); and an ill-formed piece of a reading is a maximal subpart of
+-- the text (`reading-broken`).
 use mathlib.Core.Path.{_≡_, refl, sym, _∙_, ap}
 use mathlib.Core.Logic.{_⊎_, inl, inr, ⊎-elim}
-use mathlib.Core.List.{List, [], _∷_, _++_, append-assoc, append-nil, nil≢cons}
+use mathlib.Core.List.{List, [], _∷_, _++_, append-assoc, append-nil, nil≢cons, head-eq-of-cons-eq, tail-eq-of-cons-eq}
 use Prim.Native.Nat.{ℕ, _≤_}
 use native.Mathlib.Omega.{arith}
 use lib.ListN.{length, length-append}
 use Rattle.laws.specs.Machines.{from}
 use Rattle.laws.proofs.Lists.{nil-left, cut-front, cut-back, Cuts, short, long, cuts}
-use Rattle.encodings.specs.Pieces.{Kind, full, part, bad, Piece, good, ill, cutter, pieces}
+use Rattle.encodings.specs.Pieces.{Kind, full, part, bad, Piece, good, ill, units, cutter, pieces}
 use Rattle.encodings.specs.Readings.{Completable, Coherent, Subpart, Maximal, Reading, nothing, formed, broken}
 use Rattle.encodings.proofs.Pieces.{open-full, open-part, open-bad, goes-full, goes-part, goes-bad}
 
@@ -190,3 +191,38 @@ module _ {A : Type 0} (kind : List A → Kind) (co : Coherent kind) where
   -- a reading, however it was found, is the pieces
   pub reading-pieces : {t : List A} {P : List (Piece A)} → Reading kind t P → P ≡ pieces kind t
   reading-pieces {t} r = unique r (reading kind co t)
+
+-- ---- an ill-formed piece stands in the text, and is a maximal subpart there
+
+pub record Broken {A : Type 0} (kind : List A → Kind) (t u : List A) : Type 0 where
+  pub before : List A
+  pub after : List A
+  pub text : t ≡ before ++ (u ++ after)
+  pub maximal : Maximal kind u after
+
+good-ill : {A : Type 0} {u v : List A} → good u ≡ ill v → ⊥
+good-ill e = let z : _≡_ {A = ℕ} 0 1 = cc in omega arith
+
+-- with more units in front
+broken-later : {A : Type 0} {kind : List A → Kind} {t u : List A} (v : List A) → Broken kind t u → Broken kind (v ++ t) u
+broken-later {A} v h = record {
+  before = v ++ h .before;
+  after = h .after;
+  text = rw append-assoc (ap (λ (x : List A). v ++ x) (h .text));
+  maximal = h .maximal;
+}
+
+broken-in : {A : Type 0} {kind : List A → Kind} {t : List A} {R : List (Piece A)} → Reading kind t R → (P : List (Piece A)) (u : List A)
+    (Q : List (Piece A)) → R ≡ P ++ ill u ∷ Q → Broken kind t u
+broken-in nothing [] u Q e = absurd (nil≢cons e)
+broken-in nothing (w ∷ P) u Q e = absurd (nil≢cons e)
+broken-in (formed v k r) [] u Q e = absurd (good-ill (head-eq-of-cons-eq e))
+broken-in (formed v k r) (w ∷ P) u Q e = broken-later v (broken-in r P u Q (tail-eq-of-cons-eq e))
+broken-in (broken v m r) (w ∷ P) u Q e = broken-later v (broken-in r P u Q (tail-eq-of-cons-eq e))
+broken-in {A} (broken v {t} m r) [] u Q e =
+    let same = ap units (head-eq-of-cons-eq e) in
+    record { before = []; after = t; text = ap (λ (x : List A). x ++ t) same; maximal = rw same at m }
+
+pub reading-broken : {A : Type 0} {kind : List A → Kind} {t : List A} (P : List (Piece A)) (u : List A) (Q : List (Piece A))
+    → Reading kind t (P ++ ill u ∷ Q) → Broken kind t u
+reading-broken P u Q r = broken-in r P u Q refl

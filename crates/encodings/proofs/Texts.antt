@@ -1,8 +1,8 @@
 -- Texts in any encoding form. In order: the units of one code point, in a buffer (`code-fits`,
--- `code-over`, `code-lacks`); THE READING IS CHAPTER 3'S, and the only one (`reading-in`,
--- `reading-in-unique`); at most as many code points as units, and at most as many ill-formed
--- subparts as code points (`read-most`, `ills-most`); every one is a scalar value (`read-good`,
--- `read-taken`); a well-formed sequence is a piece wherever it stands (`full-piece`,
+-- `code-over`, `code-lacks`, `wrote-all`); THE READING IS CHAPTER 3'S, and the only one
+-- (`reading-in`, `reading-in-unique`); at most as many code points as units, and at most as many
+-- ill-formed subparts as code points (`read-most`, `ills-most`); every one is a scalar value
+-- (`read-good`, `read-taken`); a well-formed sequence is a piece wherever it stands (`full-piece`,
 -- `units-piece`); and the round trips: WHAT IS WRITTEN READS BACK (`read-write`, `ill-write`), so
 -- that two texts with the same units are one (`write-injective`), and WHAT IS READ IS WRITTEN BACK
 -- (`write-read`).
@@ -15,7 +15,7 @@ use lib.Dec.{leb}
 use lib.ListN.{length, length-append}
 use borrow.Author.Tests.{le-leb, lt-leb, leb-true, leb-false}
 use Rattle.laws.specs.Lists.{All, none, also}
-use Rattle.laws.specs.Writing.{fitted}
+use Rattle.laws.specs.Writing.{Room, fitted, Wrote}
 use Rattle.laws.proofs.Bools.{test}
 use Rattle.laws.proofs.Filling.{fitted-all, fitted-none, fitted-nil}
 use Rattle.laws.proofs.Lists.{each-nil, each-cons}
@@ -50,6 +50,11 @@ module _ (f : Form) (c : ℕ) where
     code-lacks k =
         test (leb c 0x10FFFF) (λ e. rw (code-units (leb-true c 0x10FFFF e)) (fitted-none (f .units c) out at k))
         (λ e. code-over (leb-false c 0x10FFFF e))
+
+    -- within the limit, and with room for them: what fits is all of them
+    pub wrote-all : c ≤ 0x10FFFF → Room out at (f .units c) → {k : ℕ} {out′ : List ℕ} → Wrote out at (fitted (codeUnits f c) out at) k out′
+        → Wrote out at (f .units c) k out′
+    wrote-all h room w = rw (code-fits h (room .fits)) at w
 
 module _ {f : Form} (enc : Encodes f) where
   -- ---- THE READING OF A TEXT: its pieces are chapter 3's, and there are no others

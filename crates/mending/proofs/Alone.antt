@@ -5,7 +5,7 @@
 -- `letter-triple`), which is a character where it is no modern initial or has no modern peak after
 -- it (`letter-character`).
 use mathlib.Core.Path.{_≡_, refl, sym, _∙_, ap}
-use mathlib.Core.Bool.{true, false, false≢true}
+use mathlib.Core.Bool.{true, false}
 use mathlib.Core.List.{List, [], _∷_}
 use Prim.Native.Nat.{ℕ, suc, _+_, _-_, _*_, _/_, _%_, _≤_, _<_}
 use native.Mathlib.Omega.{arith}
@@ -15,10 +15,6 @@ use borrow.Author.Tests.{ltb-true, ltb-false, leb-true, leb-false, eqb-true, eqb
 use Rattle.laws.specs.Ranges.{within}
 use Rattle.laws.proofs.Bools.{test}
 use Rattle.laws.proofs.Ranges.{within-yes, within-least, within-most}
-use Rattle.letters.proofs.Steps.{syllable-least}
-use Rattle.joining.specs.Roles.{pair}
-use Rattle.joining.proofs.Roles.{role-between, initial-range, peak-range, lv-syllable}
-use Rattle.joining.proofs.Pairs.{pair-other}
 use Rattle.encodings.specs.Pieces.{pieces}
 use Rattle.encodings.specs.Rows.{_to_}
 use Rattle.encodings.specs.Reading.{goodOf, illOf}
@@ -29,20 +25,18 @@ use Rattle.utf8.specs.Utf8.{form8}
 use Rattle.utf8.specs.Table37.{table37, continuation, kindOf}
 use Rattle.utf8.specs.Reading.{takenFrom}
 use Rattle.utf8.proofs.Rows.{begun8}
-use Rattle.mending.specs.Characters.{characterFrom, roleGoesOn}
+use Rattle.mending.specs.Characters.{characterFrom}
 use Rattle.mending.specs.Inner.{tailOf, Tail, OfTail, Triple}
-use Rattle.mending.proofs.Characters.{character-of-one, character-grown, grown-stays}
+use Rattle.mending.proofs.Characters.{character-grown, grown-stays}
+use Rattle.mending.proofs.FastPaths.{ill-alone, letter-apart}
 
--- ---- AN ILL-FORMED SUBPART: it reads as FFFD, which joins with nothing
+-- ---- AN ILL-FORMED SUBPART
 
 module _ (text : List ℕ) (at : ℕ) where
-  ill-alone : {n : ℕ} → illOf n ≡ takenFrom (pieces kindOf (drop at text)) → characterFrom (pieces kindOf (drop at text)) ≡ illOf n
-  ill-alone e = sym (character-of-one form8 text at e (ap roleGoesOn (role-between 0xFFFD 0xFFFD 0xFFFD tt (omega arith) (omega arith))))
-
   module _ {first : ℕ} (is : first ≡ getD text at 0) where
     pub stray-character : 0x80 ≤ first → first < 0xC2 → characterFrom (pieces kindOf (drop at text)) ≡ illOf 1
     stray-character l m =
-        ill-alone (none-taken form8 text at (nonzero-inside text at is (omega arith)) is
+        ill-alone form8 text at (none-taken form8 text at (nonzero-inside text at is (omega arith)) is
         (row-bad table37 first (row-between table37 0x80 0xC1 tt l (omega arith))) refl)
 
     module _ (l : 0xE1 ≤ first) (m : first ≤ 0xEF) where
@@ -67,13 +61,13 @@ module _ (text : List ℕ) (at : ℕ) where
       module _ {second : ℕ} (second-is : second ≡ getD text (at + 1) 0) where
         pub second-character : within 0x80 0xBF second ≡ false → characterFrom (pieces kindOf (drop at text)) ≡ illOf 1
         second-character w =
-            ill-alone (three-begun (λ s. broken-taken s second-is (omega arith) w refl)
+            ill-alone form8 text at (three-begun (λ s. broken-taken s second-is (omega arith) w refl)
             (λ e s. broken-taken s second-is (omega arith) (outside 0x80 0xBF 0x80 0x9F second (omega arith) (omega arith) w) refl))
 
         pub third-character : (first ≡ 0xED → ⊥) → within 0x80 0xBF second ≡ true → {third : ℕ} → third ≡ getD text (at + 2) 0
             → within 0x80 0xBF third ≡ false → characterFrom (pieces kindOf (drop at text)) ≡ illOf 2
         third-character n w third-is v =
-            ill-alone (three-begun
+            ill-alone form8 text at (three-begun
             (λ s. broken-taken (goes-on s second-is (omega arith) (omega arith) w) third-is (omega arith) v refl) (λ e s. absurd (n e)))
 
 -- ---- a modern peak by its tail
@@ -138,19 +132,9 @@ tail-initial c l m =
 
 module _ (text : List ℕ) (at : ℕ) {tail : ℕ} (found : Tail text at tail) {r : Taken} (letter : OfTail tail r)
     (after : tail ≤ 0x8492 → within 0x1161 0x1175 (takenFrom (pieces kindOf (drop (at + 3) text)) .code) ≡ false) where
-  letter-apart : pair (r .code) (takenFrom (pieces kindOf (drop (at + 3) text)) .code) ≡ 0
-  letter-apart =
-      let b = takenFrom (pieces kindOf (drop (at + 3) text)) .code in
-      pair-other (r .code) b
-      (λ i p.
-      let k = initial-range (r .code) i in
-      let q = peak-range b p in
-      let h : tail ≤ 0x8492 = omega (arith, letter .is, tail-initial (r .code) (k .0) (k .1)) in
-      false≢true (sym (after h) ∙ within-yes 0x1161 0x1175 b (q .0) (q .1)))
-      (λ v f. omega (arith, syllable-least (r .code) (lv-syllable (r .code) v), letter .most))
-
   pub letter-character : r ≡ characterFrom (pieces kindOf (drop at text))
   letter-character =
       letter .whole
       ∙ sym (character-grown form8 text at (sym (found .is (r .code) (letter .least) (letter .most) (letter .is)))
-      ∙ grown-stays form8 (goodOf (r .code) 3) text (at + 3) refl letter-apart)
+      ∙ grown-stays form8 (goodOf (r .code) 3) text (at + 3) refl
+      (letter-apart (r .code) _ (letter .most) (λ h. after (omega (arith, letter .is, tail-initial (r .code) (letter .least) h)))))

@@ -4,21 +4,19 @@
 -- block 1100–11FF begins with E1 (`letter-first`), so before any other byte nothing joins
 -- (`apart-after`) and a character of three bytes passes (`three-character`, `three-passes`), also
 -- as the last of a text (`three-last`); its first two bytes, tested in one number (`lead-number`,
--- `lead-three`); the high bits of eight bytes, tested so (`bit-none`, `word-low`); and a character
--- that has room was written (`fits-placed`).
+-- `lead-three`); and the high bits of eight bytes, tested so (`word-low`).
 use mathlib.Core.Path.{_≡_, refl, sym, _∙_, ap}
 use mathlib.Core.Bool.{true}
 use mathlib.Core.List.{List, [], _∷_, _++_}
 use Prim.Native.Nat.{ℕ, _+_, _*_, _/_, _%_, _^_, _≤_, _<_}
-use native.Mathlib.Nat.{add-zero, zero-div}
+use native.Mathlib.Nat.{add-zero}
 use native.Mathlib.Omega.{arith}
-use lib.Bits.{bitAnd, and-shr, and-mod, and-mask}
+use lib.Bits.{bitAnd}
 use lib.Dec.{ltb, eqb}
 use lib.ListN.{length, getD, drop, List·getD-eq-default}
 use lib.Seq.{getD-drop}
 use borrow.Author.Tests.{eq-eqb, eqb-true, ltb-true, ltb-false}
 use Rattle.laws.specs.Ranges.{within}
-use Rattle.laws.specs.Writing.{fitted, Wrote}
 use Rattle.laws.proofs.Bools.{test}
 use Rattle.laws.proofs.Lists.{at-index, three-at}
 use Rattle.laws.proofs.Ranges.{within-least, within-most}
@@ -28,18 +26,17 @@ use Rattle.joining.proofs.Pairs.{pair-before, pair-none}
 use Rattle.encodings.specs.Pieces.{Piece, full, pieces}
 use Rattle.encodings.specs.Readings.{Reading, nothing, formed, broken}
 use Rattle.encodings.specs.Reading.{goodOf}
-use Rattle.encodings.specs.declared.answer.Taken.{Taken}
 use Rattle.encodings.proofs.Rows.{row-between, ends, goes, full-by}
-use Rattle.encodings.proofs.Texts.{code-fits, reading-in}
+use Rattle.encodings.proofs.Texts.{reading-in}
 use Rattle.utf8.specs.Table37.{table37, kindOf}
-use Rattle.utf8.specs.Utf8.{valueOf, form8, codeBytes}
+use Rattle.utf8.specs.Utf8.{valueOf, form8}
 use Rattle.utf8.proofs.Writing.{bytes-three}
 use Rattle.utf8.proofs.Round.{encodes8, full-bytes}
 use Rattle.mending.specs.Characters.{grownIn, characterFrom}
-use Rattle.mending.specs.Inner.{Passes, Three, Lead, Low, wordOf, Fits, Placed}
-use Rattle.mending.specs.declared.text.At.{At}
+use Rattle.mending.specs.Inner.{Passes, Three, Lead, Low, wordOf}
 use Rattle.mending.proofs.Characters.{apart-ill, grown-stops, character-full}
-use Rattle.mending.proofs.Turns.{passes-none, passes-on, passes-full, wrote-placed}
+use Rattle.mending.proofs.Turns.{passes-none, passes-on, passes-full}
+use Rattle.mending.proofs.FastPaths.{bits-none}
 
 -- ---- ASCII
 
@@ -156,14 +153,6 @@ lead-three {c = c} l w n = record {
 
 -- ---- the test of eight bytes in one number
 
--- where w and m have no bit in common, w has none that m has
-bit-none : (w m k : ℕ) → bitAnd w m ≡ 0 → m / 2 ^ k % 2 ≡ 1 → w / 2 ^ k % 2 ≡ 0
-bit-none w m k z e =
-    let x = w / 2 ^ k % 2 in
-    let n : bitAnd (w / 2 ^ k) (m / 2 ^ k) ≡ 0 = sym (and-shr w m k) ∙ rw (z, zero-div) in
-    let q : bitAnd x 1 ≡ 0 = rw (e, n) at (sym (and-mod (w / 2 ^ k) (m / 2 ^ k) 1)) in
-    omega (arith, q, and-mask x 1)
-
 -- the bits of w at 7, 15, .. are the highest of its bytes
 pub word-low : {a b c d e f g h w : ℕ} → a < 256 → b < 256 → c < 256 → d < 256 → e < 256 → f < 256 → g < 256 → h < 256 → w ≡ wordOf a b c d e f g h
     → eqb (bitAnd w 0x8080808080808080) 0 ≡ true → Low a b c d e f g h
@@ -179,12 +168,4 @@ word-low {w = w} ha hb hc hd he hf hg hh is q = record {
 }
   where
     bit : (k : ℕ) → 0x8080808080808080 / 2 ^ k % 2 ≡ 1 → w / 2 ^ k % 2 ≡ 0
-    bit k t = bit-none w 0x8080808080808080 k (eqb-true (bitAnd w 0x8080808080808080) 0 q) t
-
--- ---- a character that has room was written
-
-pub fits-placed : {out : List ℕ} {s : At} {t : Taken} → Fits out s t → {k : ℕ} {out′ : List ℕ}
-    → Wrote out (s .written) (fitted (codeBytes (t .code)) out (s .written)) k out′
-    → Placed out s t (record { read = s .read + t .size; written = k; ills = s .ills + t .ill }) out′
-fits-placed {out} {s} {t} h w =
-    wrote-placed (rw (code-fits form8 (t .code) out (s .written) (h .code) (h .room .fits)) at w)
+    bit k t = bits-none w 0x8080808080808080 k 1 (eqb-true (bitAnd w 0x8080808080808080) 0 q) t

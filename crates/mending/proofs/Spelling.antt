@@ -1,8 +1,8 @@
 -- A syllable that stands as single letters, by its bytes. In order: the bytes of a letter of the
 -- block 1100–11FF at an index, and back (`Letter`, `letter-bytes`, `bytes-letter`); a letter by its
 -- tail (`tail-short`, `tail-other`, `tail-three`); F of a final (`final-low`, `final-high`,
--- `final-none`); and a syllable of two letters and of three (`spelled-none`, `initial-inside`,
--- `spelled-two`, `spelled-three`).
+-- `final-none`); and a syllable of two letters and of three (`initial-inside`, `spelled-two`,
+-- `spelled-three`), by the law of any form (proofs/FastPaths).
 use mathlib.Core.Path.{_≡_, refl, sym, _∙_, ap}
 use mathlib.Core.List.{List, [], _∷_, _++_}
 use Prim.Native.Nat.{ℕ, _+_, _-_, _*_, _/_, _%_, _≤_, _<_}
@@ -12,14 +12,9 @@ use lib.Dec.{ltb}
 use lib.Seq.{getD-drop}
 use lib.ListN.{length, getD, drop, length-drop}
 use borrow.Author.Tests.{ltb-true, ltb-false}
-use Rattle.laws.specs.Ranges.{within}
 use Rattle.laws.proofs.Bools.{test}
 use Rattle.laws.proofs.Lists.{three-at}
-use Rattle.laws.proofs.Ranges.{within-yes, within-least, within-most}
 use Rattle.answers.proofs.Checks.{good-low}
-use Rattle.joining.specs.Roles.{pair}
-use Rattle.joining.proofs.Roles.{initial-range, final-range}
-use Rattle.joining.proofs.Pairs.{two-letters, three-letters, pair-other, no-fourth}
 use Rattle.encodings.specs.Pieces.{Piece, pieces}
 use Rattle.encodings.specs.Readings.{Reading, nothing, formed, broken}
 use Rattle.encodings.specs.Reading.{goodOf}
@@ -30,9 +25,9 @@ use Rattle.utf8.specs.Utf8.{form8, bytesOf}
 use Rattle.utf8.specs.Reading.{takenFrom}
 use Rattle.utf8.proofs.Writing.{bytes-three, long-three}
 use Rattle.utf8.proofs.Round.{encodes8, full-bytes, bytes-value}
-use Rattle.mending.specs.Characters.{grownIn, characterFrom}
+use Rattle.mending.specs.Characters.{characterFrom}
 use Rattle.mending.specs.Inner.{tailOf, Tail, lastOf}
-use Rattle.mending.proofs.Characters.{grown-stops, character-grown, grown-takes, grown-stays}
+use Rattle.mending.proofs.FastPaths.{last-yes, last-cases, spelled-pair, last-few, spelled-triple}
 
 -- ---- the bytes of a letter
 
@@ -105,15 +100,6 @@ module _ (text : List ℕ) (at : ℕ) where
 
 -- ---- F of a final
 
-last-yes : (c : ℕ) → 0x11A8 ≤ c → c ≤ 0x11C2 → lastOf c ≡ c - 0x11A7
-unfolding lastOf
-last-yes c l m = rw (within-yes 0x11A8 0x11C2 c l m)
-
-last-cases : {G : Type 0} (c : ℕ) → (0x11A8 ≤ c → c ≤ 0x11C2 → G) → (lastOf c ≡ 0 → G) → G
-unfolding lastOf
-last-cases c some none =
-    test (within 0x11A8 0x11C2 c) (λ q. some (within-least 0x11A8 0x11C2 c q) (within-most 0x11A8 0x11C2 c q)) (λ q. none (rw q))
-
 -- the finals' tails are two ranges
 tail-low : (c : ℕ) → 0x11A8 ≤ c → c ≤ 0x11BF → tailOf c ≡ 0x86A8 + (c - 0x11A8)
 tail-low c l m =
@@ -159,9 +145,6 @@ module _ (text : List ℕ) (at : ℕ) {r : ℕ} (tail : Tail text at r) where
 
 -- ---- a syllable in letters: a is the tail of an initial at an index, b that of a peak after it
 
-pub spelled-none : {r : Taken} {G : Type 0} → r ≡ goodOf 0 0 → (r .size ≡ 0 → ⊥) → G
-spelled-none e h = absurd (h (ap (λ (x : Taken). x .size) e))
-
 module _ (text : List ℕ) (at : ℕ) {a : ℕ} (first : Tail text at a) (a-least : 0x8480 ≤ a) (a-most : a ≤ 0x8492) where
   initial-taken : goodOf (0x1100 + (a - 0x8480)) 3 ≡ takenFrom (pieces kindOf (drop at text))
   initial-taken =
@@ -179,29 +162,14 @@ module _ (text : List ℕ) (at : ℕ) {a : ℕ} (first : Tail text at a) (a-leas
         let m : (0x1161 + (b - 0x85A1)) % 64 ≡ 0x21 + (b - 0x85A1) = omega arith in
         sym (second .is (0x1161 + (b - 0x85A1)) (omega arith) (omega arith) (rw (q, m) (omega arith)))
 
-    pair-is : pair (0x1100 + (a - 0x8480)) (0x1161 + (b - 0x85A1)) ≡ 0xAC00 + (a - 0x8480) * 588 + (b - 0x85A1) * 28
-    pair-is = two-letters (a - 0x8480) (b - 0x85A1) (omega arith) (omega arith)
-
-    -- the two joined, and what stands after them
-    pair-grown : characterFrom (pieces kindOf (drop at text))
-        ≡ grownIn form8 (goodOf (0xAC00 + (a - 0x8480) * 588 + (b - 0x85A1) * 28) 6) (pieces kindOf (drop (at + 6) text))
-    pair-grown =
-        let six : at + 3 + 3 ≡ at + 6 = omega arith in
-        let n : pair (0x1100 + (a - 0x8480)) (0x1161 + (b - 0x85A1)) ≡ 0 → ⊥ = λ z. omega (arith, pair-is) in
-        character-grown form8 text at initial-taken ∙ grown-takes form8 (goodOf (0x1100 + (a - 0x8480)) 3) text (at + 3) peak-taken n ∙ rw (six, pair-is)
-
     -- f is F of what stands after them
     module _ {f : ℕ} (found : f ≡ lastOf (takenFrom (pieces kindOf (drop (at + 6) text)) .code)) where
-      -- it is no final
-      last-apart : (c : ℕ) → lastOf c ≡ 0 → pair (0xAC00 + (a - 0x8480) * 588 + (b - 0x85A1) * 28) c ≡ 0
-      last-apart c z =
-          pair-other _ c (λ e q. let r =
-          initial-range _ e in omega (arith, r .1)) (λ e q. let r = final-range c q in omega (arith, z, last-yes c (r .0) (r .1)))
+      six : at + 6 ≡ at + 3 + 3
+      six = omega arith
 
       pub spelled-two : f ≡ 0 → goodOf (0xAC00 + (a - 0x8480) * 588 + (b - 0x85A1) * 28) 6 ≡ characterFrom (pieces kindOf (drop at text))
       spelled-two e =
-          sym (pair-grown ∙ grown-stays form8 (goodOf (0xAC00 + (a - 0x8480) * 588 + (b - 0x85A1) * 28) 6) text (at + 6) refl
-          (last-apart _ (sym found ∙ e)))
+          spelled-pair form8 3 text at (a - 0x8480) (b - 0x85A1) (omega arith) (omega arith) initial-taken peak-taken (rw six at found) e
 
       -- it is the final 11A7 + f
       last-taken : (f ≡ 0 → ⊥) → goodOf (0x11A7 + f) 3 ≡ takenFrom (pieces kindOf (drop (at + 6) text))
@@ -213,18 +181,11 @@ module _ (text : List ℕ) (at : ℕ) {a : ℕ} (first : Tail text at a) (a-leas
           rw e (sym (bytes-letter c (omega arith) (omega arith) text (at + 6) (letter-bytes c (omega arith) (omega arith) text (at + 6) refl))))
           (λ z. absurd (h (found ∙ z)))
 
-      pub last-few : f < 28
-      last-few =
-          let c = takenFrom (pieces kindOf (drop (at + 6) text)) .code in
-          last-cases c (λ l m. omega (arith, found, last-yes c l m)) (λ z. omega (arith, found, z))
+      pub last-small : f < 28
+      last-small =
+          last-few form8 3 text at (a - 0x8480) (b - 0x85A1) (omega arith) (omega arith) initial-taken peak-taken (rw six at found)
 
       pub spelled-three : (f ≡ 0 → ⊥) → goodOf (0xAC00 + (a - 0x8480) * 588 + (b - 0x85A1) * 28 + f) 9 ≡ characterFrom (pieces kindOf (drop at text))
       spelled-three h =
-          let k : 0 < f = omega (arith, h) in
-          let t : pair (0xAC00 + (a - 0x8480) * 588 + (b - 0x85A1) * 28) (0x11A7 + f) ≡ 0xAC00 + (a - 0x8480) * 588 + (b - 0x85A1) * 28 + f =
-          rw pair-is at (three-letters (a - 0x8480) (b - 0x85A1) f (omega arith) (omega arith) k last-few) in
-          let n : pair (0xAC00 + (a - 0x8480) * 588 + (b - 0x85A1) * 28) (0x11A7 + f) ≡ 0 → ⊥ = λ z. omega (arith, t) in
-          let d : (d : ℕ) → pair (0xAC00 + (a - 0x8480) * 588 + (b - 0x85A1) * 28 + f) d ≡ 0 =
-          λ d. rw (pair-is, t) at (no-fourth (0x1100 + (a - 0x8480)) (0x1161 + (b - 0x85A1)) (0x11A7 + f) d) in
-          sym (pair-grown ∙ grown-takes form8 (goodOf (0xAC00 + (a - 0x8480) * 588 + (b - 0x85A1) * 28) 6) text (at + 6) (last-taken h) n
-          ∙ rw t (grown-stops form8 (goodOf (0xAC00 + (a - 0x8480) * 588 + (b - 0x85A1) * 28 + f) 9) (pieces kindOf (drop (at + 6 + 3) text)) d))
+          spelled-triple form8 3 text at (a - 0x8480) (b - 0x85A1) (omega arith) (omega arith) initial-taken peak-taken (rw six at found) h
+          (rw six at (last-taken h))

@@ -1,7 +1,7 @@
--- One turn of the loops over a text, and the loops, in any encoding form. It has: the units
--- between two indices, copied one by one (`Copying` and its laws); a part that passes
--- (`passes-none`, `passes-on`, `passes-full`, `passes-length`); a turn that writes: a character has
--- room and was written (`wrote-placed`, `character-fits`, `character-moved`), so with units that
+-- One turn of the loops over a text, and the loops, in any encoding form. It has: the units between
+-- two indices, copied one by one (`Copying` and its laws); a part that passes (`passes-none`,
+-- `passes-on`, `passes-full`, `passes-length`); a turn that writes: a character has room and was
+-- written (`wrote-placed`, `fits-placed`, `character-fits`, `character-moved`), so with units that
 -- pass (`passes-room`, `passes-moved`); a turn that counts (`count-fits`, `count-character`,
 -- `passes-count`, `count-passes`); and what the two loops keep (`Writing`, `Tallying`, with their
 -- laws) up to the end (`mended-end`).
@@ -10,15 +10,15 @@ use mathlib.Core.List.{List, [], _∷_, _++_, append-assoc}
 use Prim.Native.Nat.{ℕ, _+_, _-_, _*_, _≤_, _<_}
 use native.Mathlib.Omega.{arith}
 use lib.ListN.{length, getD, drop, set, length-append, length-drop, drop-of-length-le}
-use Rattle.laws.specs.Writing.{Wrote}
+use Rattle.laws.specs.Writing.{fitted, Wrote}
 use Rattle.laws.proofs.Lists.{cut-front, at-index, each-nil}
 use Rattle.laws.proofs.Filling.{Filling, Counting, wrote-one, wrote-none, wrote-two, wrote-length, counting-none, counting-more, counting-all, filling-none, filling-count, filling-length, filling-more, filling-all}
 use Rattle.answers.proofs.Checks.{good-most}
 use Rattle.encodings.specs.Pieces.{full}
-use Rattle.encodings.specs.Forms.{Form, Encodes, piecesIn, illIn}
+use Rattle.encodings.specs.Forms.{Form, Encodes, piecesIn, illIn, codeUnits}
 use Rattle.encodings.specs.Reading.{goodOf, ReadFrontsIn}
 use Rattle.encodings.specs.declared.answer.Taken.{Taken}
-use Rattle.encodings.proofs.Texts.{read-most, ills-most}
+use Rattle.encodings.proofs.Texts.{wrote-all, read-most, ills-most}
 use Rattle.mending.specs.Mending.{mendedIn}
 use Rattle.mending.specs.Inner.{GoesIn, PassesIn, Copies, ReadyIn, MovedIn, FitsIn, PlacedIn, CountReadyIn, CountMovedIn, CountFitsIn, CountPlacedIn}
 use Rattle.mending.specs.declared.text.At.{At}
@@ -114,6 +114,12 @@ module _ {f : Form} where
   pub wrote-placed : {out : List ℕ} {s : At} {t : Taken} {k : ℕ} {out′ : List ℕ} → Wrote out (s .written) (f .units (t .code)) k out′
       → PlacedIn f out s t (record { read = s .read + t .size; written = k; ills = s .ills + t .ill }) out′
   wrote-placed w = record { wrote = w; read = refl; ills = refl }
+
+  -- it has room, so all its units were written
+  pub fits-placed : {out : List ℕ} {s : At} {t : Taken} → FitsIn f out s t → {k : ℕ} {out′ : List ℕ}
+      → Wrote out (s .written) (fitted (codeUnits f (t .code)) out (s .written)) k out′
+      → PlacedIn f out s t (record { read = s .read + t .size; written = k; ills = s .ills + t .ill }) out′
+  fits-placed {out} {s} {t} h w = wrote-placed (wrote-all f (t .code) out (s .written) (h .code) (h .room) w)
 
   module _ {text out : List ℕ} {s : At} where
     pub character-fits : Encodes f → ReadyIn f text out s → {t : Taken} → Character f text (s .read) t → FitsIn f out s t

@@ -11,7 +11,7 @@ ghost use Rattle.utf8.specs.Table37.{kindOf};
 ghost use Rattle.mending.specs.Characters.{grownOnce, characterFrom, roleGoesOn};
 
 // May a code point join with what stands after it?
-fn goes_on(code: u32) -> bool
+pub fn goes_on(code: u32) -> bool
     ensures { λ r. ⌜ r ≡ roleGoesOn (roleOf code) ⌝ }
 {
     let role = joining::role_of(code);

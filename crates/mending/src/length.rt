@@ -7,7 +7,7 @@ ghost use Rattle.mending.specs.Mending.{mended};
 ghost use Rattle.mending.specs.Inner.{CountReady, CountMoved, CountFits, CountPlaced};
 
 // How far counting has come.
-pub(crate) struct Count {
+pub struct Count {
     pub read: usize,
     pub length: usize,
 }

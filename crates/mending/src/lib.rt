@@ -7,5 +7,8 @@ mod spelled;
 mod text;
 mod unchanged;
 
+pub use character::goes_on;
 pub use fast::character_at;
+pub use length::Count;
+pub use text::At;
 pub use text::mend;

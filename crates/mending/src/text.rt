@@ -13,7 +13,7 @@ ghost use Rattle.mending.specs.Mending.{mended};
 ghost use Rattle.mending.specs.Inner.{Copies, Triple, Ready, Moved, Fits, Placed};
 
 // How far mending has come.
-pub(crate) struct At {
+pub struct At {
     pub read: usize,
     pub written: usize,
     pub ills: usize,

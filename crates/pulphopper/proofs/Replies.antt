@@ -6,17 +6,17 @@
 use mathlib.Core.Path.{_≡_, sym, _∙_, ap}
 use mathlib.Core.List.{List}
 use Prim.Native.Nat.{ℕ, _≤_}
+use Rattle.answers.specs.Verdicts.{done}
 use Rattle.answers.specs.Answers.{filled}
 use Rattle.answers.specs.declared.answer.Filled.{Filled}
 use Rattle.answers.specs.declared.answer.Filled.the-variants.{Done as FilledDone, Refused as FilledRefused}
 use Rattle.answers.specs.declared.refusal.Refusal.{Refusal}
-use Rattle.encodings.specs.Reading.{readAs}
+use Rattle.encodings.specs.Forms.{Form, Encodes}
+use Rattle.encodings.specs.Reading.{readAs, ReadsIn}
 use Rattle.encodings.specs.declared.answer.Counted.{Counted}
 use Rattle.encodings.specs.declared.answer.Read.{Read}
 use Rattle.encodings.specs.declared.answer.Read.the-variants.{Done, Refused}
-use Rattle.utf8.specs.Reading.{Reads}
-use Rattle.utf8.proofs.Round.{encodes8}
-use Rattle.mending.specs.Mending.{mended}
+use Rattle.mending.specs.Mending.{mendedIn}
 use Rattle.mending.proofs.Damage.{done-few}
 use Rattle.names.specs.Naming.{Names, namedAs, ReadsName}
 use Rattle.names.specs.declared.read.Named.{Named}
@@ -27,25 +27,25 @@ use Rattle.ranking.specs.declared.order.Ranked.{Ranked}
 use Rattle.ranking.specs.declared.order.Ranked.the-variants.{Stands, Refused as RankRefused}
 use Rattle.pulphopper.specs.Refusals.{refusedAnswer}
 use Rattle.pulphopper.specs.declared.answer.Answer.{Answer}
-use Rattle.pulphopper.specs.Replies.{countedAnswer, plainAnswer, orderAnswer, Mends, NamesForC, ReadsNameForC, RanksForC}
+use Rattle.pulphopper.specs.Replies.{countedAnswer, plainAnswer, orderAnswer, MendsIn, NamesForC, ReadsNameForC, RanksForC}
 
-module _ (text out : List ℕ) where
+module _ {f : Form} (text out : List ℕ) where
   -- a is what mending answered, and r what C is told
-  module _ {a : Read} {out′ : List ℕ} (h : Reads mended text out a out′) where
-    by-answer : {r : Answer} → r ≡ countedAnswer (readAs a) → Mends text out r out′
+  module _ {a : Read} {out′ : List ℕ} (h : ReadsIn f (mendedIn f) text out a out′) where
+    by-answer : {r : Answer} → r ≡ countedAnswer (readAs a) → MendsIn f text out r out′
     by-answer e = record { answers = e ∙ ap countedAnswer (h .fills .answers); leaves = h .fills .leaves }
 
-    pub mends-done : {c : Counted} → a ≡ Done c → Mends text out (record { refusal = 0; count = c .ills; value = c .length }) out′
-    mends-done e = by-answer (sym (ap (λ (x : Read). countedAnswer (readAs x)) e))
+    pub mends-done : {c : Counted} → a ≡ Done c → {r : Answer} → r ≡ countedAnswer (done c) → MendsIn f text out r out′
+    mends-done e q = by-answer (q ∙ sym (ap (λ (x : Read). countedAnswer (readAs x)) e))
 
-    pub mends-few : {c : Counted} → a ≡ Done c → c .ills ≤ 16384
-    mends-few e = done-few (rw e at h) encodes8
+    pub mends-few : Encodes f → {c : Counted} → a ≡ Done c → c .ills ≤ 16384
+    mends-few enc e = done-few (rw e at h) enc
 
-    pub mends-refused : {f : Refusal} → a ≡ Refused f → {r : Answer} → r ≡ refusedAnswer f → Mends text out r out′
+    pub mends-refused : {why : Refusal} → a ≡ Refused why → {r : Answer} → r ≡ refusedAnswer why → MendsIn f text out r out′
     mends-refused e q = by-answer (q ∙ sym (ap (λ (x : Read). countedAnswer (readAs x)) e))
 
-  pub mends-unique : {r s : Answer} {o p : List ℕ} → Mends text out r o → Mends text out s p → (r ≡ s) × (o ≡ p)
-  mends-unique f g = (f .answers ∙ sym (g .answers), f .leaves ∙ sym (g .leaves))
+  pub mends-unique : {r s : Answer} {o p : List ℕ} → MendsIn f text out r o → MendsIn f text out s p → (r ≡ s) × (o ≡ p)
+  mends-unique h g = (h .answers ∙ sym (g .answers), h .leaves ∙ sym (g .leaves))
 
 module _ (code : ℕ) (out : List ℕ) where
   -- a is what naming answered, and r what C is told

@@ -5,7 +5,7 @@ use encodings::Read;
 use names::Named;
 use ranking::Ranked;
 ghost use mathlib.Core.Path.{_≡_};
-ghost use Rattle.pulphopper.specs.Replies.{Mends, NamesForC, ReadsNameForC, RanksForC};
+ghost use Rattle.pulphopper.specs.Replies.{Mends, MendsUnits, NamesForC, ReadsNameForC, RanksForC};
 
 // Mends a text of bytes: value is the bytes written, count the ill-formed subparts.
 #[no_mangle]
@@ -14,11 +14,19 @@ pub extern "C" fn pulphopper_mend(text: &[u8], out: &mut [u8]) -> Answer
 {
     let answer = mending::mend(text, out);
     match answer {
-        Read::Done(counted) => Answer {
-            refusal: 0,
-            count: counted.ills as u32,
-            value: counted.length as u64,
-        },
+        Read::Done(counted) => crate::answer::counted(counted),
+        Read::Refused(refusal) => crate::answer::refused(refusal),
+    }
+}
+
+// Mends a text of 16-bit units: value is the units written, count the unpaired surrogates.
+#[no_mangle]
+pub extern "C" fn pulphopper_mend_units(text: &[u16], out: &mut [u16]) -> Answer
+    ensures { λ r. ⌜ MendsUnits (now (text .entry)) (now (out .entry)) r (now (out .exit)) ⌝ }
+{
+    let answer = mending_units::mend(text, out);
+    match answer {
+        Read::Done(counted) => crate::answer::counted(counted),
         Read::Refused(refusal) => crate::answer::refused(refusal),
     }
 }

@@ -4,6 +4,7 @@ mod calls;
 
 pub use answer::Answer;
 pub use calls::pulphopper_mend;
+pub use calls::pulphopper_mend_units;
 pub use calls::pulphopper_name;
 pub use calls::pulphopper_rank;
 pub use calls::pulphopper_read_name;

@@ -1,21 +1,17 @@
--- Laws of writing UTF-8: a code point's bytes in their four cases, how many they are, and the laws
--- of a text's bytes that the loops ask.
+-- Laws of writing UTF-8: a code point's bytes in their four cases, and how many they are.
 --
 -- It has: `bytesOf` by the bounds of the code point (`bytes-one` .. `bytes-four`); its length
 -- (`long-one` .. `long-four`, `bytes-least`, `bytes-most`), by a view of the four cases (`Width`);
--- those of U+FFFD (`mark-bytes`); a text's bytes (`write-most`, `write-least`); at a loop's index
--- (`taken-most`).
+-- those of U+FFFD (`mark-bytes`); and a text's bytes (`write-most`, `write-least`).
 use mathlib.Core.Path.{_≡_, refl, sym, ap}
 use mathlib.Core.Bool.{Bool, true, false}
 use mathlib.Core.List.{List, [], _∷_}
 use Prim.Native.Nat.{ℕ, _+_, _*_, _/_, _%_, _≤_, _<_}
 use native.Mathlib.Omega.{arith}
-use lib.ListN.{length, getD}
+use lib.ListN.{length}
 use lib.Dec.{ltb}
 use borrow.Author.Tests.{lt-ltb, le-ltb, ltb-true, ltb-false}
 use Rattle.laws.proofs.Lists.{length-each-least, length-each-most}
-use Rattle.answers.specs.Checks.{passes, takesText}
-use Rattle.answers.proofs.Checks.{good-most, taken-good}
 use Rattle.utf8.specs.Utf8.{bytesOf, writeText}
 
 -- ---- a code point's bytes, by its bounds
@@ -102,9 +98,3 @@ write-least x = length-each-least bytesOf bytes-least x
 
 pub write-most : (x : List ℕ) → length (writeText x) ≤ 4 * length x
 write-most x = length-each-most bytesOf 4 bytes-most x
-
--- ---- what the loops over a text ask
-
--- a code point of a text that is taken is within the limit
-pub taken-most : (text : List ℕ) → takesText text ≡ passes → (i : ℕ) → i < length text → getD text i 0 ≤ 0x10FFFF
-taken-most text e i h = good-most (getD text i 0) (taken-good text e i h)

@@ -7,7 +7,7 @@ use lib.ListN.{length}
 use lib.Seq.{sets}
 use Rattle.laws.specs.Writing.{fitted}
 use Rattle.laws.proofs.Lists.{each-nil, each-cons}
-use Rattle.laws.proofs.Filling.{filling-none, wrote-unfitted}
+use Rattle.laws.proofs.Filling.{filling-none}
 use Rattle.wire.specs.Numbers.{lowFirst, numberAt}
 use Rattle.wire.specs.Messages.{headOf, short, refusedReply, replyBytes}
 use Rattle.wire.specs.declared.head.Head.{Head}
@@ -15,7 +15,8 @@ use Rattle.wire.specs.declared.reply.Reply.{Reply}
 use Rattle.answers.specs.Answers.{told}
 use Rattle.answers.specs.declared.refusal.Refusal.{Refusal}
 use Rattle.answers.specs.declared.refusal.Told.{Told}
-use Rattle.wire.proofs.FourBytes.{length-each-number, put-next, put-end}
+use Rattle.wire.proofs.Elements.{put-nothing, put-end}
+use Rattle.wire.proofs.FourBytes.{length-each-number, put-next}
 
 pub head-all : (bytes : List ℕ) {kind x y z w room first second : ℕ} → kind ≡ numberAt bytes 0 → x ≡ numberAt bytes 1 → y ≡ numberAt bytes 2
     → z ≡ numberAt bytes 3 → w ≡ numberAt bytes 4 → room ≡ numberAt bytes 5 → first ≡ numberAt bytes 6 → second ≡ numberAt bytes 7
@@ -32,7 +33,7 @@ module _ (r : Reply) where
   length-reply = length-each-number (r .refusal ∷ r .value ∷ r .second ∷ r .third ∷ [])
 
   pub reply-none : (bytes : List ℕ) → length bytes < 16 → bytes ≡ sets bytes 0 (fitted (replyBytes r) bytes 0)
-  reply-none bytes h = (wrote-unfitted {all = replyBytes r} {out = bytes} {at = 0} refl (omega (arith, length-reply))) .holds
+  reply-none bytes h = put-nothing (replyBytes r) bytes (omega (arith, length-reply))
 
   pub reply-all : (b₀ b₁ b₂ b₃ b₄ : List ℕ) → 16 ≤ length b₀ → b₁ ≡ sets b₀ 0 (fitted (lowFirst (r .refusal)) b₀ 0)
       → b₂ ≡ sets b₁ 4 (fitted (lowFirst (r .value)) b₁ 4) → b₃ ≡ sets b₂ 8 (fitted (lowFirst (r .second)) b₂ 8)

@@ -17,13 +17,23 @@ pub fn at_most(most: usize, size: usize) -> usize
     most
 }
 
-// Fills a buffer with the byte A5: as code points, and as bytes.
+// Fills a buffer with the byte A5: as code points, as units, and as bytes.
 pub fn fill(out: &mut [u32])
     ensures { λ r. ⌜ now (out .exit) ≡ replicate (length (now (out .entry))) 0xA5A5A5A5 ⌝ }
 {
     let mut i = 0;
     while i < out.len() {
         out[i] = 0xA5A5_A5A5;
+        i += 1;
+    }
+}
+
+pub fn fill_units(out: &mut [u16])
+    ensures { λ r. ⌜ now (out .exit) ≡ replicate (length (now (out .entry))) 0xA5A5 ⌝ }
+{
+    let mut i = 0;
+    while i < out.len() {
+        out[i] = 0xA5A5;
         i += 1;
     }
 }

@@ -8,7 +8,7 @@ ghost use Rattle.laws.specs.Writing.{fitted};
 ghost use Rattle.wire.specs.Numbers.{lowFirst, numberAt, numbersOf};
 
 // The number of two bytes, low byte first.
-fn pair(low: u8, high: u8) -> u32
+pub(crate) fn pair(low: u8, high: u8) -> u32
     ensures { λ r. ⌜ r ≡ low + 0x100 * high ⌝ }
     ensures { λ r. ⌜ r < 0x10000 ⌝ }
 {

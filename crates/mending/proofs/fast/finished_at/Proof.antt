@@ -3,7 +3,7 @@ use Rattle.encodings.specs.Reading.{goodOf}
 use mathlib.Core.Path.{_∙_, ap}
 use native.Mathlib.Omega.{arith}
 use borrow.Author.Tests.{not-false}
-use Rattle.mending.proofs.Spelling.{spelled-none}
+use Rattle.mending.proofs.FastPaths.{spelled-none}
 use Rattle.mending.proofs.Passes.{three-character}
 use borrow.Author.Needs.{needs}
 use Rattle.mending.proofs.fast.finished_at.Statement.{statement}

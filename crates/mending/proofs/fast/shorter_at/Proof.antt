@@ -1,6 +1,6 @@
 -- `mending::fast::shorter_at` meets its contract: ASCII, letters, or a finished syllable.
 use native.Mathlib.Omega.{arith}
-use Rattle.mending.proofs.Spelling.{spelled-none}
+use Rattle.mending.proofs.FastPaths.{spelled-none}
 use Rattle.mending.proofs.Passes.{low-character}
 use borrow.Author.Needs.{needs}
 use Rattle.mending.proofs.fast.shorter_at.Statement.{statement}

@@ -1,7 +1,7 @@
 -- `mending::lone::letter_at` meets its contract: nothing found, or a letter that is no modern
 -- initial or has no modern peak after it.
 use Rattle.mending.proofs.Alone.{letter-triple, letter-character}
-use Rattle.mending.proofs.Spelling.{spelled-none}
+use Rattle.mending.proofs.FastPaths.{spelled-none}
 use native.Mathlib.Omega.{arith}
 use mathlib.Core.Logic.{⊎-elim}
 use mathlib.Core.Path.{sym, _∙_}

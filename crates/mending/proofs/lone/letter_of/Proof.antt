@@ -1,7 +1,7 @@
 -- `mending::lone::letter_of` meets its contract: a third byte that continues nothing, or the code
 -- point of the two bytes.
 use Rattle.mending.proofs.Alone.{of-tail}
-use Rattle.mending.proofs.Spelling.{spelled-none}
+use Rattle.mending.proofs.FastPaths.{spelled-none}
 use native.Mathlib.Omega.{arith}
 use borrow.Author.Needs.{needs}
 use Rattle.mending.proofs.lone.letter_of.Statement.{statement}

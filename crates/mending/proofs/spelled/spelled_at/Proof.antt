@@ -1,5 +1,6 @@
 -- `mending::spelled::spelled_at` meets its contract: nothing found, two letters, or three.
-use Rattle.mending.proofs.Spelling.{spelled-none, initial-inside, last-few, spelled-two, spelled-three}
+use Rattle.mending.proofs.FastPaths.{spelled-none}
+use Rattle.mending.proofs.Spelling.{initial-inside, last-small, spelled-two, spelled-three}
 use native.Mathlib.Omega.{arith}
 use borrow.Author.Needs.{needs}
 use Rattle.mending.proofs.spelled.spelled_at.Statement.{statement}
@@ -74,7 +75,7 @@ add-t13 : tie.Need-add-t13
 add-t13 c =
     omega (
       arith,
-      last-few _ _ (c .before .before .before .before .before .before .before .tail-at .ensures)
+      last-small _ _ (c .before .before .before .before .before .before .before .tail-at .ensures)
           (c .before .before .before .before .before .before .if1 .left) (c .before .before .before .before .before .if2 .left)
           (c .before .before .before .before .tail-at2 .ensures) (c .before .before .before .if3 .left) (c .before .before .if4 .left)
           (c .before .final-at .ensures),
@@ -90,7 +91,7 @@ returns-6 c = (
     least = omega arith;
     most = omega (
       arith,
-      last-few _ _
+      last-small _ _
           (c .before .before .before .before .before .before .before .tail-at .ensures) (c .before .before .before .before .before .before .if1 .left)
           (c .before .before .before .before .before .if2 .left) (c .before .before .before .before .tail-at2 .ensures)
           (c .before .before .before .if3 .left) (c .before .before .if4 .left) (c .before .final-at .ensures),

@@ -1,6 +1,6 @@
 -- `mending::text::place` meets its contract: the character has room, so all its bytes are written.
 use native.Mathlib.Omega.{arith}
-use Rattle.mending.proofs.Passes.{fits-placed}
+use Rattle.mending.proofs.Turns.{fits-placed}
 use borrow.Author.Needs.{needs}
 use Rattle.mending.proofs.text.place.Statement.{statement}
 use Rattle.mending.proofs.text.place.Tie as tie

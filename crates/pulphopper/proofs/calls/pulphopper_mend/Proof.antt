@@ -1,7 +1,7 @@
 -- `pulphopper::calls::pulphopper_mend` meets its contract: what mending answers, in the three
 -- numbers of an answer.
+use Rattle.utf8.proofs.Round.{encodes8}
 use Rattle.pulphopper.proofs.Replies.{mends-done, mends-few, mends-refused}
-use native.Mathlib.Omega.{arith}
 use borrow.Author.Needs.{needs}
 use Rattle.pulphopper.proofs.calls.pulphopper_mend.Statement.{statement}
 use Rattle.pulphopper.proofs.calls.pulphopper_mend.Tie as tie
@@ -12,8 +12,8 @@ mend-requires c κs = search needs
 enum-known-answer : tie.Need-enum-known-answer
 enum-known-answer c = search needs
 
-cast-t9 : tie.Need-cast-t9
-cast-t9 c = omega (arith, mends-few _ _ (c .before .before .before .before .before .before .mend .ensures) (c .before .before .answer .given .1))
+counted-requires : tie.Need-counted-requires
+counted-requires c κs = mends-few _ _ (c .before .before .before .before .before .mend .ensures) encodes8 (c .before .answer .given .1)
 
 enum-known-answer-2 : tie.Need-enum-known-answer-2
 enum-known-answer-2 c = search needs
@@ -25,15 +25,13 @@ same-length : tie.Need-same-length
 same-length c = search needs
 
 returns : tie.Need-returns
-returns c = mends-done _ _ (c .before .before .before .before .before .before .mend .ensures) (c .before .before .answer .given .1)
+returns c = mends-done _ _ (c .before .before .before .before .before .before .mend .ensures) (c .before .before .answer .given .1) (c .counted .ensures)
 
 same-length-2 : tie.Need-same-length-2
 same-length-2 c = search needs
 
 returns-2 : tie.Need-returns-2
-returns-2 c =
-    mends-refused _ _ (c .before .before .before .before .before .before .mend .ensures) (c .before .before .answer2 .given .1)
-    (c .refused .ensures)
+returns-2 c = mends-refused _ _ (c .before .before .before .before .before .before .mend .ensures) (c .before .before .answer2 .given .1) (c .refused .ensures)
 
 pub pulphopper-mend-spec : {M : Type 1} → statement M
 pulphopper-mend-spec =
@@ -41,7 +39,7 @@ pulphopper-mend-spec =
     (tie.spec
     mend-requires
     enum-known-answer
-    cast-t9
+    counted-requires
     enum-known-answer-2
     refused-requires
     same-length

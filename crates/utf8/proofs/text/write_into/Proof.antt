@@ -2,22 +2,15 @@
 -- left make up the whole.
 use Rattle.laws.proofs.Filling.{each-piece, Filling, filling-none, filling-length, filling-room, filling-more, filling-all}
 use Rattle.laws.proofs.Lists.{each-end}
-use Rattle.utf8.specs.Utf8.{bytesOf, form8, writeText, codeBytes}
-use Rattle.utf8.proofs.Writing.{taken-most}
-use Rattle.encodings.proofs.Texts.{code-fits}
-use Rattle.laws.specs.Writing.{Room, fitted, Wrote}
+use Rattle.utf8.specs.Utf8.{bytesOf, form8, writeText}
+use Rattle.answers.proofs.Checks.{taken-most}
+use Rattle.encodings.proofs.Texts.{wrote-all}
 use Rattle.laws.specs.Lists.{each}
 use lib.ListN.{length, drop}
-use mathlib.Core.List.{List}
-use Prim.Native.Nat.{ℕ, _≤_, _-_}
+use Prim.Native.Nat.{_≤_, _-_}
 use borrow.Author.Needs.{needs}
 use Rattle.utf8.proofs.text.write_into.Statement.{statement}
 use Rattle.utf8.proofs.text.write_into.Tie as tie
-
--- a code point within the limit, and room for its bytes: what fits is all of them
-wrote-all : {c : ℕ} {out out′ : List ℕ} {k k′ : ℕ} → c ≤ 0x10FFFF → Room out k (bytesOf c) → Wrote out k (fitted (codeBytes c) out k) k′ out′
-    → Wrote out k (bytesOf c) k′ out′
-wrote-all {c} {out} {k = k} h room w = rw (code-fits form8 c out k h (room .fits)) at w
 
 abbrev Inv-loop : tie.InvT-loop
 Inv-loop text out₀ at₀ next₀ out at next = (next ≤ length text) × Filling (writeText text) (each bytesOf (drop next text)) out₀ out at
@@ -49,7 +42,7 @@ loop-again c = (
   filling-more (c .before .before .before .before .before .before .before .before .before .pre .1)
       (c .before .before .before .before .before .before .loop .inv .1)
       (each-piece bytesOf 0 _ _ (c .before .before .before .before .before .loop-test .taken))
-      (wrote-all
+      (wrote-all form8 _ _ _
       (taken-most _ (c .before .before .before .before .before .before .before .before .before .pre .0) _
       (c .before .before .before .before .before .loop-test .taken))
       (filling-room (c .before .before .before .before .before .before .before .before .before .pre .1)

@@ -6,7 +6,8 @@ use Rattle.laws.specs.Lists.{each}
 use Rattle.laws.proofs.Lists.{each-end}
 use Rattle.laws.proofs.Filling.{Filling, filling-none, filling-length, each-piece}
 use Rattle.wire.specs.Numbers.{lowFirst}
-use Rattle.wire.proofs.FourBytes.{numbers-fit, numbers-none, put-next, put-end}
+use Rattle.wire.proofs.Elements.{put-end}
+use Rattle.wire.proofs.FourBytes.{numbers-fit, numbers-none, put-next}
 use borrow.Author.Needs.{needs}
 use Rattle.wire.proofs.numbers.put_numbers.Statement.{statement}
 use Rattle.wire.proofs.numbers.put_numbers.Tie as tie

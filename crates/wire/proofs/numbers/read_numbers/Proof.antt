@@ -4,7 +4,7 @@ use Prim.Native.Nat.{_-_}
 use lib.ListN.{length}
 use Rattle.wire.specs.Numbers.{numbersOf}
 use Rattle.wire.proofs.Filling.{Overwriting, overwriting-none, overwriting-next, overwriting-all}
-use Rattle.wire.proofs.FourBytes.{length-numbers, numbers-at}
+use Rattle.wire.proofs.Elements.{length-elements, elements-at}
 use borrow.Author.Needs.{needs}
 use Rattle.wire.proofs.numbers.read_numbers.Statement.{statement}
 use Rattle.wire.proofs.numbers.read_numbers.Tie as tie
@@ -16,7 +16,7 @@ abbrev μ-loop : tie.MeasureT-loop
 μ-loop bytes out₀ i₀ out i = length out₀ - i
 
 loop-holds : tie.Need-loop-holds Inv-loop μ-loop
-loop-holds c = overwriting-none _ _ (length-numbers _ _)
+loop-holds c = overwriting-none _ _ (length-elements _ _ _ _)
 
 number-at-requires : tie.Need-number-at-requires Inv-loop μ-loop
 number-at-requires c κs = search needs
@@ -35,7 +35,7 @@ loop-less c = search needs
 
 loop-again : tie.Need-loop-again Inv-loop μ-loop
 loop-again c =
-    overwriting-next 0 (c .before .before .loop .inv) (c .before .loop-test .taken) (λ h. c .number-at .ensures ∙ sym (numbers-at _ _ _ 0 h))
+    overwriting-next 0 (c .before .before .loop .inv) (c .before .loop-test .taken) (λ h. c .number-at .ensures ∙ sym (elements-at _ _ _ _ _ 0 h))
 
 same-length : tie.Need-same-length Inv-loop μ-loop
 same-length c = search needs
