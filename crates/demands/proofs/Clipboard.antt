@@ -6,10 +6,13 @@ use Prim.Native.Nat.{ℕ, _≤_, _<_}
 use native.Mathlib.Omega.{arith}
 use Rattle.laws.specs.Lists.{All, none, also}
 use Rattle.laws.specs.Ranges.{within}
-use Rattle.laws.proofs.Lists.{all-left, all-right}
-use Rattle.answers.proofs.Checks.{taken-all}
+use Rattle.laws.proofs.Lists.{all-left, all-right, all-map, each-alone}
+use Rattle.answers.proofs.Checks.{good-low, taken-all}
 use Rattle.answers.proofs.Verdicts.{fills-done}
 use Rattle.letters.proofs.FullParts.{full-full, full-good}
+use Rattle.joining.specs.Joining.{join}
+use Rattle.joining.proofs.Roles.{role-between, hard-as}
+use Rattle.joining.proofs.Joins.{join-none}
 use Rattle.normal.proofs.Conjoining.{nfc-join}
 use Rattle.encodings.specs.Pieces.{pieces}
 use Rattle.encodings.specs.Readings.{Maximal}
@@ -17,8 +20,8 @@ use Rattle.encodings.specs.Rows.{rowIn, kindBy}
 use Rattle.encodings.proofs.Readings.{reading-broken}
 use Rattle.encodings.proofs.Texts.{reading-in, reading-in-unique, read-most, read-write, ill-write, write-read}
 use Rattle.utf8.proofs.Round.{encodes8}
-use Rattle.utf16.specs.Utf16.{tableD91, readUnits, unpaired, writeUnits}
-use Rattle.utf16.proofs.Writing.{write-least, write-most}
+use Rattle.utf16.specs.Utf16.{tableD91, units16, readUnits, unpaired, writeUnits}
+use Rattle.utf16.proofs.Writing.{units-one, write-least, write-most}
 use Rattle.utf16.proofs.Forms.{encodes16}
 use Rattle.utf16.proofs.Unpaired as surrogates
 use Rattle.mending.specs.Mending.{mendedIn}
@@ -97,6 +100,16 @@ true-marks = (refl, refl)
 
 pub unit-lengths : demand.UnitLengths
 unit-lengths text = (read-most encodes16 text, write-least text, write-most text, mended-most text, mended-least text)
+
+pub plain-stays : demand.PlainStays
+unfolding mendedIn
+plain-stays units plain =
+    let written : writeUnits units ≡ units = each-alone units16 (all-map (λ c h. units-one c (omega arith)) plain) in
+    let back : readUnits units ≡ units =
+    ap readUnits (sym written) ∙ read-write encodes16 (all-map (λ c h. good-low c (omega arith)) plain) in
+    let joined : join units ≡ units =
+    join-none (all-map (λ c h. hard-as c (role-between 0x0000 0x10FF c tt (omega arith) (omega arith)) tt) plain) in
+    rw (back, joined) written
 
 -- ---- the accident
 

@@ -105,6 +105,10 @@ UnitLengths =
     × (length text ≤ length (writeUnits text)) × (length (writeUnits text) ≤ 2 * length text)
     × (length (mendedUnits text) ≤ length text) × (length text ≤ 3 * length (mendedUnits text))
 
+-- and the bound is attained: plain text, all below 1100, comes back as it is
+abbrev pub PlainStays : Type 0
+PlainStays = (units : List ℕ) → All (λ a. a < 0x1100) units → mendedUnits units ≡ units
+
 -- ---- the accident
 
 -- ONE BOAT: a name as it stands, and the same name taken apart into single letters, are mended to
