@@ -4,10 +4,10 @@
 -- `four-plain`); any quiet unit passes if no letter follows (`quiet-passes`); so does a run of them
 -- (`trails-more`, and at its end `trails-none`, `trails-apart`, `trails-plain`, `trails-back`); and
 -- a surrogate pair (`pair-passes`).
-use mathlib.Core.Path.{_≡_, refl, sym, _∙_, ap}
+use mathlib.Core.Path.{_≡_, refl, _∙_, ap}
 use mathlib.Core.Bool.{true, false, not}
 use mathlib.Core.Logic.{⊎-elim}
-use mathlib.Core.List.{List, [], _∷_, _++_}
+use mathlib.Core.List.{List, [], _∷_}
 use Prim.Native.Nat.{ℕ, _+_, _-_, _*_, _/_, _%_, _^_, _≤_, _<_}
 use native.Mathlib.Omega.{arith}
 use lib.Bits.{bitAnd}
@@ -26,7 +26,7 @@ use Rattle.encodings.specs.Rows.{kindBy}
 use Rattle.encodings.specs.Forms.{piecesIn}
 use Rattle.encodings.specs.Reading.{goodOf}
 use Rattle.encodings.proofs.Rows.{row-between, row-full, ends, goes, full-by}
-use Rattle.utf16.specs.Utf16.{high, low, tableD91, value16, form16}
+use Rattle.utf16.specs.Utf16.{high, low, tableD91, form16}
 use Rattle.utf16.proofs.Forms.{encodes16}
 use Rattle.mending.specs.Characters.{grownIn}
 use Rattle.mending.proofs.Characters.{grown-stops, grown-stays, character-full}

@@ -3,7 +3,6 @@
 -- one a pair (`at-pair`), or a unit before the low ones or after them, or none, so that it is
 -- unpaired (`at-before`, `at-after`).
 use mathlib.Core.Path.{_≡_, refl}
-use mathlib.Core.Option.{some}
 use mathlib.Core.List.{List, [], _∷_}
 use Prim.Native.Nat.{ℕ, suc, _+_, _-_, _*_, _≤_, _<_}
 use native.Mathlib.Omega.{arith}

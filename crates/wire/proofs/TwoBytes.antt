@@ -8,7 +8,7 @@ use lib.ListN.{length, getD, drop, set, length-drop}
 use lib.Seq.{sets}
 use Rattle.laws.specs.Lists.{each}
 use Rattle.laws.specs.Writing.{fitted}
-use Rattle.laws.proofs.Lists.{at-index, at-index-to}
+use Rattle.laws.proofs.Lists.{at-index}
 use Rattle.laws.proofs.Filling.{Piece, Filling, wrote-pair, wrote-fitted, wrote-unfitted}
 use Rattle.wire.specs.Numbers.{elementAt, unitBytes, firstUnit, unitAt}
 use Rattle.wire.proofs.Elements.{length-each, put-nothing, put-piece}

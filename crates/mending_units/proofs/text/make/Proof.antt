@@ -1,6 +1,5 @@
 -- `mending_units::text::make` meets its contract: each of the three ways answers the character at
 -- the index, which is then written.
-use native.Mathlib.Omega.{arith}
 use Rattle.utf16.proofs.Forms.{encodes16}
 use Rattle.mending.proofs.Turns.{character-fits, character-moved}
 use Rattle.mending.proofs.Characters.{character-next}
