@@ -10,10 +10,10 @@ ghost use Rattle.utf16.specs.Utf16.{units16, form16};
 pub fn size_of(code: u32) -> usize
     ensures { λ r. ⌜ r ≡ length (units16 code) ⌝ }
 {
-    if code < 0x10000 {
-        return 1;
+    match code {
+        0..=0xFFFF => 1,
+        _ => 2,
     }
-    2
 }
 
 // Writes a code point's units from `at` on, and answers the index after them.

@@ -14,7 +14,7 @@ mul-out : tie.Need-mul-out
 mul-out c = search needs
 
 slice-write-out : tie.Need-slice-write-out
-slice-write-out c = room-one (c .before .pre .1) (units-one _ (c .if1 .taken))
+slice-write-out c = room-one (c .before .pre .1) (units-one _ (omega (arith, c .if1 .taken)))
 
 add-result : tie.Need-add-result
 add-result c = search needs
@@ -23,7 +23,7 @@ same-length : tie.Need-same-length
 same-length c = search needs
 
 returns : tie.Need-returns
-returns c = wrote-one (units-one _ (c .if1 .taken))
+returns c = wrote-one (units-one _ (omega (arith, c .if1 .taken)))
 
 add-out : tie.Need-add-out
 add-out c = search needs
@@ -35,7 +35,7 @@ mul-out-2 : tie.Need-mul-out-2
 mul-out-2 c = search needs
 
 slice-write-out-2 : tie.Need-slice-write-out-2
-slice-write-out-2 c = omega (arith, room-all (c .before .pre .1) (units-two _ (c .if1 .left)))
+slice-write-out-2 c = omega (arith, room-all (c .before .pre .1) (units-two _ (omega (arith, c .if1 .left))))
 
 add-out-2 : tie.Need-add-out-2
 add-out-2 c = search needs
@@ -50,7 +50,7 @@ mul-out-3 : tie.Need-mul-out-3
 mul-out-3 c = search needs
 
 slice-write-out-3 : tie.Need-slice-write-out-3
-slice-write-out-3 c = simp length-set (omega (arith, room-all (c .before .pre .1) (units-two _ (c .if1 .left))))
+slice-write-out-3 c = simp length-set (omega (arith, room-all (c .before .pre .1) (units-two _ (omega (arith, c .if1 .left)))))
 
 add-result-2 : tie.Need-add-result-2
 add-result-2 c = search needs
@@ -59,7 +59,7 @@ same-length-2 : tie.Need-same-length-2
 same-length-2 c = search needs
 
 returns-2 : tie.Need-returns-2
-returns-2 c = wrote-pair (units-two _ (c .if1 .left))
+returns-2 c = wrote-pair (units-two _ (omega (arith, c .if1 .left)))
 
 pub put-spec : {M : Type 1} → statement M
 put-spec =
