@@ -35,8 +35,9 @@ fn pairs_by_names(facts: &mut Facts) {
     facts.state("51 letters have names", NAMES.split(' ').count() == 51);
     for (code, name) in (0x3131..).zip(NAMES.split(' ')) {
         let initial = place_in(INITIALS, name).filter(|&place| place < 19);
-        let peak = place_in(PEAKS, name);
-        let last = place_in(FINALS, name).map(|place| place + 1);
+        let peak = place_in(PEAKS, name).filter(|&place| place < 21);
+        let last = place_in(FINALS, name).filter(|&place| place < 27);
+        let last = last.map(|place| place + 1);
         let said = (initial_of(code), peak_of(code), final_of(code));
         let fact = format!("{code:04X} is what HANGUL LETTER {name} can be");
         facts.state(&fact, said == (initial, peak, last));

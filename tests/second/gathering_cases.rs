@@ -1,5 +1,6 @@
 // The kind gathered form: what cases are made for it. They lean on letters that two clusters could
-// take. It defines no answers: those stand with the definition of the gathered form.
+// take, and on those at the border of a syllable. It defines no answers: those stand with the
+// definition of the gathered form.
 
 use crate::gathering::gathered_form;
 use crate::kinds::{no_calls, Kind};
@@ -26,21 +27,48 @@ pub const GATHERED_FORM: Kind = Kind {
     outcome: words::codes_in_buffer,
 };
 
-/// Of the repeated texts the second comes back longer than it was.
+/// Of the repeated texts the second and the third come back longer than they were.
 pub const GATHERED: TextKind = TextKind {
     number: 6,
     lent: Width::Number,
     whole: gathered_form,
     growth: 7,
     good_text: gathering_text,
-    repeated: &[&[0x1100], &[0x1107, 0xAC01], &[0x1109], &[0xAF66], &[0x41]],
+    repeated: &[
+        &[0x1100],
+        &[0x1107, 0xAC01],
+        &[0xD07D, 0x11CF],
+        &[0x1109],
+        &[0xAF66],
+        &[0x41],
+    ],
 };
 
-/// The letters of which the clusters are made, with some that are of none.
+/// Letters of every place of which clusters are made.
 const LETTERS: [u32; 14] = [
     0x1100, 0x1102, 0x1103, 0x1107, 0x1109, 0x110B, 0x110C, 0x1161, 0x1165, 0x1169, 0x116E, 0x1175,
     0x11A8, 0x11BA,
 ];
+
+/// All simple peaks, and all simple finals.
+const PEAKS: [u32; 11] = [
+    0x1161, 0x1163, 0x1165, 0x1167, 0x1169, 0x116D, 0x116E, 0x1172, 0x1173, 0x1175, 0x119E,
+];
+const FINALS: [u32; 17] = [
+    0x11A8, 0x11AB, 0x11AE, 0x11AF, 0x11B7, 0x11B8, 0x11BA, 0x11BC, 0x11BD, 0x11BE, 0x11BF, 0x11C0,
+    0x11C1, 0x11C2, 0x11EB, 0x11F0, 0x11F9,
+];
+
+/// A syllable, and after it two or three letters of one place, which may go on with its last.
+fn with_a_border(random: &mut Random) -> Vec<u32> {
+    let syllable = random.between(0xAC00, 0xD7A3);
+    let letters: &[u32] = random.pick(&[&PEAKS, &FINALS]);
+    let mut text = vec![syllable];
+    for _ in 0..random.between(2, 3) {
+        text.push(random.pick(letters));
+    }
+    text
+}
 
 /// Much that gathers: runs of single letters, the letters of clusters, and what is taken apart.
 fn gathering_text(random: &mut Random, length: usize) -> Vec<u32> {
@@ -48,12 +76,16 @@ fn gathering_text(random: &mut Random, length: usize) -> Vec<u32> {
         return simple_text(random, length);
     }
     let clusters = clusters();
-    let mut text = Vec::with_capacity(length + 3);
+    let mut text = Vec::with_capacity(length + 4);
     while text.len() < length {
-        match random.below(8) {
+        match random.below(12) {
             0..=3 => text.push(random.pick(&LETTERS)),
             4 | 5 => text.extend(simple_letters(random.pick(&clusters))),
             6 => text.push(random.between(0xAC00, 0xD7A3)),
+            7 => text.push(random.pick(&clusters)),
+            8 => text.push(random.pick(&PEAKS)),
+            9 => text.push(random.pick(&FINALS)),
+            10 => text.extend(with_a_border(random)),
             _ => text.push(random.pick(&[0x0000, 0x41, 0x302E, 0x115F, 0x1160, 0x11A7])),
         }
     }
@@ -61,10 +93,23 @@ fn gathering_text(random: &mut Random, length: usize) -> Vec<u32> {
     text
 }
 
-/// Every run of letters of the given length.
-fn runs(count: usize) -> Vec<Vec<u32>> {
-    let texts = texts::short_texts(&LETTERS, count);
+/// Every run of some letters of the given length.
+fn runs(letters: &[u32], count: usize) -> Vec<Vec<u32>> {
+    let texts = texts::short_texts(letters, count);
     texts.into_iter().filter(|run| run.len() == count).collect()
+}
+
+/// At the border of a syllable: every peak after every LV of one initial, and every final after
+/// that initial's first LV and every LVT made of it.
+fn at_borders() -> Vec<Vec<u32>> {
+    let mut pieces = Vec::new();
+    for lv in (0xAC00..0xAE4C).step_by(28) {
+        pieces.extend((0x1161..=0x11A2).map(|peak| vec![lv, peak, 0x41]));
+    }
+    for syllable in 0xAC00..0xAC1C {
+        pieces.extend((0x11A8..=0x11F9).map(|last| vec![syllable, last, 0x41]));
+    }
+    pieces
 }
 
 /// The letters of each cluster, beside a letter on either side, and of two clusters.
@@ -90,10 +135,10 @@ fn each_code() -> Vec<u32> {
 fn edges() -> Vec<Call> {
     let mut calls = GATHERED.no_text();
     calls.extend(GATHERED.long_spoilt());
-    for text in packed(beside_clusters()) {
+    for text in packed(beside_clusters().into_iter().chain(at_borders())) {
         calls.extend(GATHERED.exact_and_short(&text));
     }
-    for run in runs(2) {
+    for run in runs(&LETTERS, 2) {
         calls.extend(GATHERED.in_rooms_around(&run));
     }
     calls.extend(GATHERED.short_spoilt());
@@ -102,11 +147,17 @@ fn edges() -> Vec<Call> {
     calls
 }
 
-/// Every run of four letters, every cluster's letters, and every scalar value.
+/// Every run of four letters, of four simple peaks and of four simple finals, what stands at the
+/// border of a syllable, every letter, every syllable, and every scalar value.
 fn every() -> Vec<Call> {
     let mut calls = Vec::new();
-    for run in runs(4) {
-        calls.push(GATHERED.with_exact_room(&run));
+    for letters in [&LETTERS[..], &PEAKS, &FINALS] {
+        for run in runs(letters, 4) {
+            calls.push(GATHERED.with_exact_room(&run));
+        }
+    }
+    for piece in at_borders() {
+        calls.extend(GATHERED.exact_and_short(&piece));
     }
     for code in each_code() {
         calls.extend(GATHERED.in_rooms_around(&[code]));
@@ -136,6 +187,11 @@ fn stored() -> Vec<Call> {
         (&[0x1100, 0x0000, 0x1100, 0x1100], 3),
         (&[0x1100, 0x302E, 0x1100], 3),
         (&[0x115F, 0x1160, 0x11C3, 0x1176], 4),
+        (&[0x1100, 0x1175, 0x119E, 0x11AF, 0x11AE, 0x11C2], 3),
+        (&[0xD07D, 0x11CF], 4),
+        (&[0xD07D, 0x11CF], 3),
+        (&[0xAC01, 0x11AF], 2),
+        (&[0x1173, 0x1175, 0x116E], 1),
         (&[0xD55C, 0xAE00, 0x20, 0xB2ED], 4),
         (&[0x1100, 0xD800], 2),
     ])

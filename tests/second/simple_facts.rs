@@ -30,8 +30,8 @@ pub fn state_all(facts: &mut Facts) {
 fn names(facts: &mut Facts) {
     for (place, names, expected) in [
         ("initials", INITIALS, 90),
-        ("peaks", PEAKS, 21),
-        ("finals", FINALS, 27),
+        ("peaks", PEAKS, 66),
+        ("finals", FINALS, 82),
     ] {
         let distinct: HashSet<&str> = names.split(' ').collect();
         let count = names.split(' ').count();
@@ -50,6 +50,13 @@ fn names(facts: &mut Facts) {
         ("PANSIOS", "PANSIOS"),
         ("WAE", "O A I"),
         ("YO", "YO"),
+        ("O-YE", "O YEO I"),
+        ("YI-U", "EU I U"),
+        ("U-EO-EU", "U EO EU"),
+        ("SSANGARAEA", "ARAEA ARAEA"),
+        ("RIEUL-KAPYEOUNPIEUP", "RIEUL PIEUP IEUNG"),
+        ("RIEUL-YEORINHIEUH", "RIEUL YEORINHIEUH"),
+        ("IEUNG-SSANGKIYEOK", "IEUNG KIYEOK KIYEOK"),
     ];
     for (name, letters) in known {
         let fact = format!("{name} spells {letters}");
@@ -57,15 +64,15 @@ fn names(facts: &mut Facts) {
     }
 }
 
-/// Of each sort that has clusters: how many, and how many simple letters (002, table 1).
+/// Of each sort: how many clusters, and how many simple letters (002, table 1).
 fn counts(facts: &mut Facts) {
     let expected = [
         (Sort::ModernInitial, 5, 14),
         (Sort::OldInitial, 62, 9),
         (Sort::ModernPeak, 11, 10),
-        (Sort::OldPeak, 0, 45),
+        (Sort::OldPeak, 44, 1),
         (Sort::ModernFinal, 13, 14),
-        (Sort::OldFinal, 0, 55),
+        (Sort::OldFinal, 52, 3),
     ];
     for (sort, complex, simple) in expected {
         let codes = (TABLE_FIRST..=TABLE_LAST).filter(|&code| sort_of(code) == sort);
@@ -73,12 +80,12 @@ fn counts(facts: &mut Facts) {
         let fact = format!("{sort:?}: {complex} clusters, {simple} others");
         facts.state(&fact, (taken.len(), whole.len()) == (complex, simple));
     }
-    facts.state("there are 91 clusters", clusters().len() == 91);
+    facts.state("there are 187 clusters", clusters().len() == 187);
     facts.state("the table has 768 numbers", rows().concat().len() == 768);
     let of_three = clusters()
         .into_iter()
         .filter(|&code| simple_letters(code).len() == 3);
-    facts.state("ten clusters have three letters", of_three.count() == 10);
+    facts.state("30 clusters have three letters", of_three.count() == 30);
 }
 
 /// Initial, peak or final; None for all that is no letter.
@@ -107,26 +114,36 @@ fn rule_of_the_table(facts: &mut Facts) {
     let whole = (TABLE_FIRST..)
         .zip(rows())
         .filter(|&(code, row)| row == [code, 0, 0]);
-    facts.state("165 rows are their code alone", whole.count() == 256 - 91);
+    facts.state("69 rows are their code alone", whole.count() == 256 - 187);
     let zeros_after = rows()
         .iter()
         .all(|row| row[0] != 0 && (row[1] != 0 || row[2] == 0));
     facts.state("zeros stand after letters", zeros_after);
 }
 
-/// The other way to the table: the appendix, with the rules' corrections, and no names.
+/// The other way to the table: the appendix, with the rules' corrections, the cluster that it
+/// lacks, and no names.
 fn table_as_printed(facts: &mut Facts) {
     let printed = appendix::numbers(appendix::PRINTED);
-    facts.state("92 rows are printed", printed.len() == 92);
+    facts.state("188 rows are printed", printed.len() == 188);
     let mut letters: HashMap<u32, Vec<u32>> = HashMap::new();
     for row in &printed {
-        let first = letters.insert(row[0], row[1..].to_vec());
-        facts.state("no row is printed twice", first.is_none());
+        let before = letters.insert(row[0], row[1..].to_vec());
+        let as_known = match before {
+            Some(before) => row[0] == appendix::TWICE && before == row[1..],
+            None => true,
+        };
+        facts.state("no other row is printed twice", as_known);
     }
+    facts.state("one row is", letters.len() == printed.len() - 1);
     for row in appendix::numbers(appendix::CORRECTIONS) {
         let printed = letters.insert(row[0], row[1..].to_vec());
-        let wrong = printed.iter().any(|printed| *printed != row[1..]);
+        let wrong = printed.is_some_and(|printed| printed != row[1..]);
         facts.state(&format!("{:04X} is printed wrong", row[0]), wrong);
+    }
+    for row in appendix::numbers(appendix::MISSING) {
+        let printed = letters.insert(row[0], row[1..].to_vec());
+        facts.state(&format!("{:04X} is not printed", row[0]), printed.is_none());
     }
     let same = (TABLE_FIRST..=TABLE_LAST).all(|code| {
         let printed = letters.get(&code).cloned();
@@ -136,7 +153,7 @@ fn table_as_printed(facts: &mut Facts) {
 }
 
 fn known_rows(facts: &mut Facts) {
-    let known: [(u32, &[u32]); 16] = [
+    let known: [(u32, &[u32]); 27] = [
         (0x1140, &[0x1140]),
         (0x1153, &[0x110E, 0x1112]),
         (0x116A, &[0x1169, 0x1161]),
@@ -153,22 +170,42 @@ fn known_rows(facts: &mut Facts) {
         (0x1170, &[0x116E, 0x1165, 0x1175]),
         (0x11AA, &[0x11A8, 0x11BA]),
         (0x11BB, &[0x11BA, 0x11BA]),
+        (0x118B, &[0x116E, 0x1165, 0x1173]),
+        (0x118C, &[0x116E, 0x1167, 0x1175]),
+        (0x118E, &[0x1172, 0x1161]),
+        (0x1197, &[0x1173, 0x1175, 0x116E]),
+        (0x119D, &[0x1175, 0x119E]),
+        (0x11C8, &[0x11AB, 0x11EB]),
+        (0x11CF, &[0x11AF, 0x11AE, 0x11C2]),
+        (0x11D9, &[0x11AF, 0x11F9]),
+        (0x11ED, &[0x11BC, 0x11A8, 0x11A8]),
+        (0x11F1, &[0x11F0, 0x11BA]),
+        (0x11F4, &[0x11C1, 0x11BC]),
     ];
     for (code, letters) in known {
         let fact = format!("{code:04X} is {letters:04X?}");
         facts.state(&fact, simple_letters(code) == letters);
     }
-    let whole = (0x1176..=0x11A7).chain(0x11C3..=0x11FF);
-    let mut whole = whole.chain(0x115A..=0x1160);
+    let no_letters = (0x115A..=0x1160).chain(0x11A3..=0x11A7);
+    let mut no_letters = no_letters.chain(0x11FA..=0x11FF);
     facts.state(
-        "old peaks and finals stay",
-        whole.all(|code| !is_cluster(code)),
+        "what has no place stays whole",
+        no_letters.all(|code| !is_cluster(code)),
     );
+    let old = (TABLE_FIRST..=TABLE_LAST).filter(|&code| {
+        let old = [Sort::OldInitial, Sort::OldPeak, Sort::OldFinal];
+        old.contains(&sort_of(code)) && !is_cluster(code)
+    });
+    let simple = [
+        0x113C, 0x113E, 0x1140, 0x114C, 0x114E, 0x1150, 0x1154, 0x1155, 0x1159, 0x119E, 0x11EB,
+        0x11F0, 0x11F9,
+    ];
+    facts.state("thirteen old letters are simple", old.eq(simple));
 }
 
 /// Marked case 1, 002's own examples, and words that any reader knows.
 fn known_forms(facts: &mut Facts) {
-    let known: [(&[u32], &[u32]); 12] = [
+    let known: [(&[u32], &[u32]); 14] = [
         (&[0xAC03], &[0x1100, 0x1161, 0x11A8, 0x11BA]),
         (&[0x1169, 0x1162], &[0x1169, 0x1161, 0x1175]),
         (&[0x116A, 0x1175], &[0x1169, 0x1161, 0x1175]),
@@ -179,6 +216,8 @@ fn known_forms(facts: &mut Facts) {
         (&[0xAC0C], &[0x1100, 0x1161, 0x11AF, 0x11BA]),
         (&[0xAE4C], &[0x1100, 0x1100, 0x1161]),
         (&[0xAC00, 0x11A7, 0x0000], &[0x1100, 0x1161, 0x11A7, 0]),
+        (&[0x115F, 0x1160, 0x11C3], &[0x115F, 0x1160, 0x11A8, 0x11AF]),
+        (&[0x113C, 0x119D, 0x11F0], &[0x113C, 0x1175, 0x119E, 0x11F0]),
         (&[0x3164, 0x115F, 0x3133], &[0x3164, 0x115F, 0x3133]),
         (&[], &[]),
     ];

@@ -19,7 +19,7 @@ use Rattle.laws.proofs.Lists.{all-map}
 use Rattle.laws.proofs.Ranges.{within-least, within-most}
 use Rattle.laws.proofs.Strings.{every-all}
 use Rattle.laws.proofs.Tables.{every}
-use Rattle.clusters.specs.Table.{Cluster, two, three, modernInitials, modernPeaks, modernFinals, oldInitials, clusters, clusterCode, lettersIn, lettersFrom, lettersOf, nowhere, placeOf}
+use Rattle.clusters.specs.Table.{Cluster, two, three, clusters, clusterCode, lettersIn, lettersFrom, lettersOf, nowhere, placeOf}
 use Rattle.clusters.specs.Rows.{asRow, rowBy, lettersBy}
 use Rattle.clusters.specs.Gathering.{twoIn, twoOf, threeIn, threeOf}
 use Rattle.clusters.specs.Inner.{Covers, Spans, Searched, hit, miss, orZero}
@@ -44,10 +44,10 @@ allIn lo hi k = within lo hi (clusterCode k) && (within lo hi (firstIn k) && wit
 
 -- and so they are in one of the three spans
 unfoldable spanned : Cluster → Bool
-spanned k = allIn 0x1100 0x1159 k || (allIn 0x1161 0x1175 k || allIn 0x11A8 0x11C2 k)
+spanned k = allIn 0x1100 0x1159 k || (allIn 0x1161 0x11A2 k || allIn 0x11A8 0x11F9 k)
 
 all-spanned : T (every (λ n k. spanned k) 0 clusters)
-unfolding spanned allIn clusters modernInitials modernPeaks modernFinals oldInitials within
+unfolding spanned allIn clusters within
 all-spanned = tt
 
 -- ---- what it says
@@ -63,8 +63,8 @@ record Inside (lo hi k a b : ℕ) : Type 0 where
 
 data Spanned (k a b : ℕ) : Type 0 where
   initials : Inside 0x1100 0x1159 k a b → Spanned k a b
-  peaks : Inside 0x1161 0x1175 k a b → Spanned k a b
-  finals : Inside 0x11A8 0x11C2 k a b → Spanned k a b
+  peaks : Inside 0x1161 0x11A2 k a b → Spanned k a b
+  finals : Inside 0x11A8 0x11F9 k a b → Spanned k a b
 
 all-inside : (lo hi : ℕ) (k : Cluster) → allIn lo hi k ≡ true → Inside lo hi (clusterCode k) (firstIn k) (secondIn k)
 unfolding allIn
@@ -87,8 +87,8 @@ unfolding spanned
 spanned-by k t =
     test (allIn 0x1100 0x1159 k) (λ e. initials (all-inside 0x1100 0x1159 k e))
     (λ n.
-    test (allIn 0x1161 0x1175 k) (λ e. peaks (all-inside 0x1161 0x1175 k e))
-    (λ m. finals (all-inside 0x11A8 0x11C2 k (T-true _ (rw (n, m) at t)))))
+    test (allIn 0x1161 0x11A2 k) (λ e. peaks (all-inside 0x1161 0x11A2 k e))
+    (λ m. finals (all-inside 0x11A8 0x11F9 k (T-true _ (rw (n, m) at t)))))
 
 spanned-at : All (λ k. T (spanned k)) clusters
 spanned-at = every-all spanned (λ k t. t) clusters 0 all-spanned
@@ -298,7 +298,7 @@ module _ (a b d : ℕ) {r : ℕ} (found : r ≡ orZero (threeOf a b d)) where
 
 -- a span that is right wherever the letter stands covers the clusters that begin with it
 pub covers-when : (a : ℕ) {low high : ℕ} → (0x1100 ≤ a → a ≤ 0x1159 → (low ≡ 0x1100) × (high ≡ 0x115A))
-    → (0x1161 ≤ a → a ≤ 0x1175 → (low ≡ 0x1161) × (high ≡ 0x1176)) → (0x11A8 ≤ a → a ≤ 0x11C2 → (low ≡ 0x11A8) × (high ≡ 0x11C3))
+    → (0x1161 ≤ a → a ≤ 0x11A2 → (low ≡ 0x1161) × (high ≡ 0x11A3)) → (0x11A8 ≤ a → a ≤ 0x11F9 → (low ≡ 0x11A8) × (high ≡ 0x11FA))
     → Covers a (record { low = low; high = high })
 covers-when a {low} {high} initial peak final = record {
   low-code = λ k b x e. low-of (spans-of k e) .0;

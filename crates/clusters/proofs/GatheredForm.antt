@@ -23,7 +23,7 @@ use Rattle.joining.specs.Roles.{roleOf, pair}
 use Rattle.joining.specs.Joining.{join, joiner, opens}
 use Rattle.joining.specs.declared.joiner.Open.the-variants.{Nothing as NothingOpen}
 use Rattle.joining.proofs.Joins.{join-most}
-use Rattle.clusters.specs.Table.{modernInitials, modernPeaks, modernFinals, oldInitials, clusters, lettersOf, nowhere, placeOf}
+use Rattle.clusters.specs.Table.{clusters, lettersOf, nowhere, placeOf}
 use Rattle.clusters.specs.Simple.{simple, simpleOf}
 use Rattle.clusters.specs.Gathering.{twoOf, threeOf, longest, clustered, gathered}
 use Rattle.clusters.specs.Inner.{undecided, gatherer, gathering, coded}
@@ -196,21 +196,31 @@ gathered-coded text =
 -- longer than the text given
 
 pub three-first : clustered (0x1107 ∷ 0x1109 ∷ 0x1100 ∷ []) ≡ 0x1122 ∷ []
-unfolding clustered twoOf threeOf clusters modernInitials modernPeaks modernFinals oldInitials
+unfolding clustered twoOf threeOf clusters
 three-first = refl
 
 pub after-cluster : clustered (0x1109 ∷ 0x1107 ∷ 0x1109 ∷ 0x1100 ∷ []) ≡ 0x1132 ∷ 0x112D ∷ []
-unfolding clustered twoOf threeOf clusters modernInitials modernPeaks modernFinals oldInitials
+unfolding clustered twoOf threeOf clusters
 after-cluster = refl
 
 pub case-seven : gathered (0x1100 ∷ 0x1100 ∷ 0x1161 ∷ []) ≡ 0xAE4C ∷ []
-unfolding gathered simple partsTo oneStep isSyllable each lettersOf clustered twoOf threeOf clusters modernInitials modernPeaks modernFinals oldInitials pair opens roleOf sortOf within
+unfolding gathered simple partsTo oneStep isSyllable each lettersOf clustered twoOf threeOf clusters pair opens roleOf sortOf within
 case-seven = refl
 
 pub case-eight : gathered (0x1100 ∷ 0x1161 ∷ 0x1175 ∷ []) ≡ 0xAC1C ∷ []
-unfolding gathered simple partsTo oneStep isSyllable each lettersOf clustered twoOf threeOf clusters modernInitials modernPeaks modernFinals oldInitials pair opens roleOf sortOf within
+unfolding gathered simple partsTo oneStep isSyllable each lettersOf clustered twoOf threeOf clusters pair opens roleOf sortOf within
 case-eight = refl
 
 pub case-longer : gathered (0x1107 ∷ 0xAC01 ∷ []) ≡ 0x111E ∷ 0x1161 ∷ 0x11A8 ∷ []
-unfolding gathered simple partsTo oneStep isSyllable each lettersOf clustered twoOf threeOf clusters modernInitials modernPeaks modernFinals oldInitials pair opens roleOf sortOf within
+unfolding gathered simple partsTo oneStep isSyllable each lettersOf clustered twoOf threeOf clusters pair opens roleOf sortOf within
 case-longer = refl
+
+-- ---- cases of document 02, #102: an old peak and an old final; twice as long as the text given
+
+pub case-old : gathered (0x1100 ∷ 0x1175 ∷ 0x119E ∷ 0x11AF ∷ 0x11AE ∷ 0x11C2 ∷ []) ≡ 0x1100 ∷ 0x119D ∷ 0x11CF ∷ []
+unfolding gathered simple partsTo oneStep isSyllable each lettersOf clustered twoOf threeOf clusters pair opens roleOf sortOf within
+case-old = refl
+
+pub case-twice : gathered (0xD07D ∷ 0x11CF ∷ []) ≡ 0xD06C ∷ 0x11E3 ∷ 0x11AE ∷ 0x11C2 ∷ []
+unfolding gathered simple partsTo oneStep isSyllable each lettersOf clustered twoOf threeOf clusters pair opens roleOf sortOf within
+case-twice = refl

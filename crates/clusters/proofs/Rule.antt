@@ -24,7 +24,7 @@ use Rattle.answers.proofs.Checks.{good-low}
 use Rattle.letters.specs.Sorts.{sortOf, hasSort}
 use Rattle.letters.specs.declared.sort.Sort.{Sort}
 use Rattle.letters.specs.declared.sort.Sort.the-variants.{ModernInitial, OldInitial, ModernPeak, OldPeak, ModernFinal, OldFinal}
-use Rattle.clusters.specs.Table.{Cluster, two, three, modernInitials, modernPeaks, modernFinals, oldInitials, clusters, clusterCode, lettersIn, lettersFrom, lettersOf, clusterRow, Place, initial, peak, final, nowhere, placeOf, Rule, TableRule}
+use Rattle.clusters.specs.Table.{Cluster, two, three, modernInitials, oldInitials, modernPeaks, oldPeaks, modernFinals, oldFinals, clusters, clusterCode, lettersIn, lettersFrom, lettersOf, clusterRow, Place, initial, peak, final, nowhere, placeOf, Rule, TableRule}
 use Rattle.clusters.specs.Simple.{isLetter}
 
 -- ---- the test
@@ -78,7 +78,7 @@ unfoldable ruled : Bool
 ruled = every (λ n c. rightRow c) 0 codes && distinct (map packedRow codes)
 
 holds : T ruled
-unfolding ruled rightRow rightLetter lone run packedRow lettersOf clusters modernInitials modernPeaks modernFinals oldInitials sortOf within
+unfolding ruled rightRow rightLetter lone run packedRow lettersOf clusters sortOf within
 holds = tt
 
 -- ---- from the test to the rule at each row
@@ -120,7 +120,7 @@ run-at (suc n) lo zero h = omega arith
 run-at (suc n) lo (suc k) h = let e : suc lo + k ≡ lo + suc k = omega arith in run-at n (suc lo) k (omega arith) ∙ e
 
 no-row : packedRow 0 ≡ 0
-unfolding packedRow lettersOf clusters modernInitials modernPeaks modernFinals oldInitials
+unfolding packedRow lettersOf clusters
 no-row = refl
 
 -- a code of the table stands among the codes
@@ -182,7 +182,7 @@ agrees k =
     && (leb (length (lettersIn k)) (mostOf (clusterCode k)) && every (λ n l. within 0x1100 0x11FF l) 0 (lettersIn k))
 
 list-agrees : T (every (λ n k. agrees k) 0 clusters)
-unfolding agrees lettersOf clusters modernInitials modernPeaks modernFinals oldInitials sortOf within
+unfolding agrees lettersOf clusters sortOf within
 list-agrees = tt
 
 all-agree : All (λ k. T (agrees k)) clusters
@@ -317,45 +317,76 @@ letters-distinct c d e =
 
 -- ---- the clusters counted, by their lists and by the sorts of their codes
 
-pub clusters-counted : (length modernInitials ≡ 5) × (length modernPeaks ≡ 11) × (length modernFinals ≡ 13) × (length oldInitials ≡ 62) × (length clusters ≡ 91)
-unfolding clusters modernInitials modernPeaks modernFinals oldInitials
-clusters-counted = (refl, refl, refl, refl, refl)
+pub clusters-counted : (length modernInitials ≡ 5) × (length modernPeaks ≡ 11) × (length modernFinals ≡ 13) × (length oldInitials ≡ 62)
+    × (length oldPeaks ≡ 44) × (length oldFinals ≡ 52) × (length clusters ≡ 187)
+unfolding clusters
+clusters-counted = (refl, refl, refl, refl, refl, refl, refl)
 
 -- how many codes of the sort, from 1100 to 11FF, have more than one letter
 abbrev pub clustersOf : Sort → ℕ
 clustersOf s = count (λ c. hasSort s c && leb 2 (length (lettersOf c))) 0x1100 0x100
 
 pub sorts-counted : (clustersOf ModernInitial ≡ 5) × (clustersOf ModernPeak ≡ 11) × (clustersOf ModernFinal ≡ 13) × (clustersOf OldInitial ≡ 62)
-    × (clustersOf OldPeak ≡ 0) × (clustersOf OldFinal ≡ 0)
-unfolding count sortOf within lettersOf clusters modernInitials modernPeaks modernFinals oldInitials
+    × (clustersOf OldPeak ≡ 44) × (clustersOf OldFinal ≡ 52)
+unfolding count sortOf within lettersOf clusters
 sorts-counted = (refl, refl, refl, refl, refl, refl)
 
 -- ---- rows of document 01: its corrections, and clusters of three
 
 pub row-1140 : clusterRow 0x1140 ≡ 0x1140 ∷ 0 ∷ 0 ∷ []
-unfolding lettersOf clusters modernInitials modernPeaks modernFinals oldInitials
+unfolding lettersOf clusters
 row-1140 = refl
 
 pub row-1153 : clusterRow 0x1153 ≡ 0x110E ∷ 0x1112 ∷ 0 ∷ []
-unfolding lettersOf clusters modernInitials modernPeaks modernFinals oldInitials
+unfolding lettersOf clusters
 row-1153 = refl
 
 pub row-116A : clusterRow 0x116A ≡ 0x1169 ∷ 0x1161 ∷ 0 ∷ []
-unfolding lettersOf clusters modernInitials modernPeaks modernFinals oldInitials
+unfolding lettersOf clusters
 row-116A = refl
 
 pub row-116B : clusterRow 0x116B ≡ 0x1169 ∷ 0x1161 ∷ 0x1175 ∷ []
-unfolding lettersOf clusters modernInitials modernPeaks modernFinals oldInitials
+unfolding lettersOf clusters
 row-116B = refl
 
 pub row-11B6 : clusterRow 0x11B6 ≡ 0x11AF ∷ 0x11C2 ∷ 0 ∷ []
-unfolding lettersOf clusters modernInitials modernPeaks modernFinals oldInitials
+unfolding lettersOf clusters
 row-11B6 = refl
 
 pub row-1146 : clusterRow 0x1146 ≡ 0x110B ∷ 0x1140 ∷ 0 ∷ []
-unfolding lettersOf clusters modernInitials modernPeaks modernFinals oldInitials
+unfolding lettersOf clusters
 row-1146 = refl
 
 pub row-1122 : clusterRow 0x1122 ≡ 0x1107 ∷ 0x1109 ∷ 0x1100 ∷ []
-unfolding lettersOf clusters modernInitials modernPeaks modernFinals oldInitials
+unfolding lettersOf clusters
 row-1122 = refl
+
+-- ---- rows of document 02, #102: what the appendix lacks and what it has twice, the old peak that
+-- is simple, IEUNG by the name and not by its alias, a final of three
+
+pub row-118E : clusterRow 0x118E ≡ 0x1172 ∷ 0x1161 ∷ 0 ∷ []
+unfolding lettersOf clusters
+row-118E = refl
+
+pub row-118C : clusterRow 0x118C ≡ 0x116E ∷ 0x1167 ∷ 0x1175 ∷ []
+unfolding lettersOf clusters
+row-118C = refl
+
+pub row-119E : clusterRow 0x119E ≡ 0x119E ∷ 0 ∷ 0 ∷ []
+unfolding lettersOf clusters
+row-119E = refl
+
+pub row-11ED : clusterRow 0x11ED ≡ 0x11BC ∷ 0x11A8 ∷ 0x11A8 ∷ []
+unfolding lettersOf clusters
+row-11ED = refl
+
+pub row-11CF : clusterRow 0x11CF ≡ 0x11AF ∷ 0x11AE ∷ 0x11C2 ∷ []
+unfolding lettersOf clusters
+row-11CF = refl
+
+-- the old simple letters keep their own row
+pub old-simple : All (λ c. clusterRow c ≡ c ∷ 0 ∷ 0 ∷ [])
+    (0x113C ∷ 0x113E ∷ 0x1140 ∷ 0x114C ∷ 0x114E ∷ 0x1150 ∷ 0x1154 ∷ 0x1155 ∷ 0x1159 ∷ 0x119E ∷ 0x11EB ∷ 0x11F0 ∷ 0x11F9 ∷ [])
+unfolding lettersOf clusters
+old-simple =
+    also refl (also refl (also refl (also refl (also refl (also refl (also refl (also refl (also refl (also refl (also refl (also refl (also refl none))))))))))))

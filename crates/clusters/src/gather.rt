@@ -40,13 +40,13 @@ fn span_of(letter: u32) -> Span
             low: 0x1100,
             high: 0x115A,
         },
-        0x1161..=0x1175 => Span {
+        0x1161..=0x11A2 => Span {
             low: 0x1161,
-            high: 0x1176,
+            high: 0x11A3,
         },
-        0x11A8..=0x11C2 => Span {
+        0x11A8..=0x11F9 => Span {
             low: 0x11A8,
-            high: 0x11C3,
+            high: 0x11FA,
         },
         _ => Span { low: 0, high: 0 },
     }

@@ -24,7 +24,7 @@ use Rattle.encodings.specs.Rows.{rowIn}
 use Rattle.utf8.specs.Utf8.{readText}
 use Rattle.names.specs.Names.{initials, peaks, finals, prefix, nameBy, nameOf, namedFrom, named}
 use Rattle.names.specs.Naming.{noSyllable, noName, syllableOr}
-use Rattle.clusters.specs.Table.{modernInitials, modernPeaks, modernFinals, oldInitials, clusters, lettersOf}
+use Rattle.clusters.specs.Table.{clusters, lettersOf}
 use Rattle.clusters.specs.Simple.{simple}
 use Rattle.clusters.specs.Gathering.{twoOf, threeOf, clustered, gathered}
 use Rattle.fillers.specs.Groups.{pairs, asInitial, asPeak, asFinal, groupOf, turned}
@@ -109,7 +109,7 @@ all-hold (r ∷ rows) h =
 
 pub cases : Cases
 unfolding table each within overLimit bad firstWhere badCodePoint takesText takesUnits sortOf isSyllable oneStep partsTo roleOf pair opens
-    rowIn initials peaks finals prefix nameBy named namedFrom noSyllable modernInitials modernPeaks modernFinals oldInitials clusters
+    rowIn initials peaks finals prefix nameBy named namedFrom noSyllable clusters
     lettersOf simple twoOf threeOf clustered gathered pairs asInitial asPeak asFinal groupOf turned
 cases =
     all-hold table
