@@ -3,14 +3,15 @@
 
 use crate::facts::{refusal, Facts};
 use crate::gathering::{clustered, gathered_form};
-use crate::gathering_cases::GATHERED;
+use crate::gathering_cases::{FINALS, GATHERED, PEAKS};
 use crate::letters::LIMIT;
 use crate::random::Random;
-use crate::simple::{clusters, simple_form, simple_letters};
+use crate::simple::{clusters, is_cluster, simple_form, simple_letters};
 
 pub fn state_all(facts: &mut Facts) {
     known_forms(facts);
     every_cluster(facts);
+    simple_peaks_and_finals(facts);
     seeded_texts(facts);
     refused_texts(facts);
 }
@@ -49,6 +50,14 @@ fn every_cluster(facts: &mut Facts) {
         .into_iter()
         .all(|code| clustered(&simple_letters(code)) == [code]);
     facts.state("the letters of every cluster gather to it", whole);
+}
+
+/// Every run of these is tried.
+fn simple_peaks_and_finals(facts: &mut Facts) {
+    let peaks = (0x1161..=0x11A2).filter(|&code| !is_cluster(code));
+    facts.state("eleven peaks are simple", peaks.eq(PEAKS));
+    let finals = (0x11A8..=0x11F9).filter(|&code| !is_cluster(code));
+    facts.state("seventeen finals are simple", finals.eq(FINALS));
 }
 
 /// Of seeded texts: the simple form stays, gathering again changes nothing, and letters alone

@@ -10,7 +10,7 @@ use crate::letters::*;
 use crate::random::Random;
 use crate::simple::*;
 use crate::simple_cases::SIMPLE;
-use crate::simple_texts::simple_text;
+use crate::simple_texts::{simple_text, OF_THREE};
 use std::collections::{HashMap, HashSet};
 
 pub fn state_all(facts: &mut Facts) {
@@ -85,7 +85,7 @@ fn counts(facts: &mut Facts) {
     let of_three = clusters()
         .into_iter()
         .filter(|&code| simple_letters(code).len() == 3);
-    facts.state("30 clusters have three letters", of_three.count() == 30);
+    facts.state("30 clusters have three letters", of_three.eq(OF_THREE));
 }
 
 /// Initial, peak or final; None for all that is no letter.

@@ -3,7 +3,7 @@
 -- CAME FROM (`simple-gathered`), gathering it again changes nothing, and two texts gather to the
 -- same exactly when their simple forms are the same; how long it is (`gathered-most`); a code that
 -- has no place is a place to cut (`clustered-cut`); the machine that gathers letter by letter gives
--- the same (`from-gatherer`, `gathered-coded`); cases of document 01.
+-- the same (`from-gatherer`, `gathered-coded`); cases of documents 01 and 02.
 use mathlib.Core.Path.{_≡_, refl, sym, _∙_, ap}
 use mathlib.Core.Option.{Option, none, some}
 use mathlib.Core.List.{List, [], _∷_, _++_}

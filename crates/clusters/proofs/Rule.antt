@@ -2,7 +2,7 @@
 -- from the test to the rule at each row (`rule-at`), and so THE RULE (`table-rule`). Then the list
 -- of clusters, which gathering searches, held to the rows (`agrees`), and what holds of the letters
 -- of every number (`by-letters`): how many they are, outside the table, good ones, and the rule
--- once more. Last the clusters counted, and rows of document 01 as worked examples.
+-- once more. Last the clusters counted, and rows of documents 01 and 02 as worked examples.
 use mathlib.Core.Path.{_≡_, refl, sym, _∙_, ap}
 use mathlib.Core.Bool.{Bool, true, false, cond, _&&_, _||_, true≢false}
 use mathlib.Core.List.{List, [], _∷_, map}
