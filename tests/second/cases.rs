@@ -4,6 +4,7 @@
 use crate::kinds::{by_value, no_calls, refused, with_unused_numbers, Kind};
 use crate::letters::{answer_of_one_step, answer_of_sorter, full_parts_of_text, LIMIT, SORTS};
 use crate::random::Random;
+use crate::simple::codes_around_tables;
 use crate::text_kinds::TextKind;
 use crate::texts;
 use crate::wire::{Answer, Call, Shape, Width};
@@ -60,10 +61,12 @@ pub const PARTS: TextKind = TextKind {
     repeated: &[&[0xD7A3], &[0xAC00], &[0x41]],
 };
 
-const STORED_FOR_SORTER: [u32; 28] = [
-    0x1161, 0x1100, 0x1112, 0x1113, 0x1159, 0x115A, 0x115F, 0x1160, 0x1175, 0x1176, 0x11A2, 0x11A3,
-    0x11A7, 0x11A8, 0x11C2, 0x11C3, 0x11F9, 0x11FA, 0xAC00, 0xAC01, 0xD788, 0xD7A3, 0xD7A4, 0x0000,
-    0x10FFFF, 0xD800, 0xDFFF, 0x110000,
+const STORED_FOR_SORTER: [u32; 49] = [
+    0x1161, 0x1100, 0x1101, 0x1112, 0x1113, 0x1140, 0x1159, 0x115A, 0x115E, 0x115F, 0x1160, 0x1162,
+    0x1175, 0x1176, 0x119E, 0x11A2, 0x11A3, 0x11A7, 0x11A8, 0x11A9, 0x11C2, 0x11C3, 0x11EB, 0x11F9,
+    0x11FA, 0x11FF, 0x1200, 0xA95F, 0xA960, 0xA97C, 0xA97D, 0xAC00, 0xAC01, 0xD788, 0xD7A3, 0xD7A4,
+    0xD7AF, 0xD7B0, 0xD7C6, 0xD7C7, 0xD7CA, 0xD7CB, 0xD7FB, 0xD7FC, 0x0000, 0x10FFFF, 0xD800,
+    0xDFFF, 0x110000,
 ];
 
 const STORED_FOR_ONE_STEP: [u32; 14] = [
@@ -141,7 +144,7 @@ fn edge_codes() -> Vec<u32> {
     let mut codes = texts::boundary_codes();
     codes.extend(texts::look_alike_codes());
     codes.extend(texts::row_neighbours());
-    codes.extend(0x1100..=0x11FF);
+    codes.extend(codes_around_tables());
     codes
 }
 
@@ -178,7 +181,7 @@ fn full_parts_every() -> Vec<Call> {
     for code in 0xAC00..=0xD7A3 {
         calls.extend(PARTS.in_rooms_around(&[code]));
     }
-    for code in 0x1100..=0x11FF {
+    for code in codes_around_tables() {
         calls.push(PARTS.call(&[code], 2));
     }
     for code in (0xD800..=0xDFFF).chain(texts::numbers_beyond()) {
@@ -209,6 +212,7 @@ fn full_parts_stored() -> Vec<Call> {
         (&[0x1100], 1),
         (&[0x1100], 0),
         (&[0x1100, 0x1161, 0x11A7], 3),
+        (&[0xA960, 0xD7B0, 0xAC00, 0xD7CB], 5),
         (&[0xD55C, 0xAE00, 0x41], 8),
         (&[0xD55C, 0xAE00, 0x41], 7),
         (&[0xD55C, 0xAE00, 0x41], 6),

@@ -16,8 +16,9 @@ const OTHER_FILLERS: [u32; 8] = [
 
 /// Letters that no group takes: old compatibility letters, the neighbours of the letters, and
 /// conjoining and half-width ones.
-const OTHER_LETTERS: [u32; 10] = [
-    0x3130, 0x3165, 0x3186, 0x3187, 0x318E, 0x318F, 0x1100, 0x1161, 0x11A8, 0xFFA1,
+const OTHER_LETTERS: [u32; 15] = [
+    0x3130, 0x3165, 0x3186, 0x3187, 0x318E, 0x318F, 0x1100, 0x1161, 0x11A8, 0xFFA1, 0x115A, 0xA960,
+    0xD7B0, 0xD7CB, 0xD7FB,
 ];
 
 /// A compatibility letter that passes the test.
@@ -85,7 +86,7 @@ fn piece(random: &mut Random) -> Vec<u32> {
             group
         }
         9 => vec![random.between(0x3130, 0x318F)],
-        10 => vec![random.between(0xAC00, 0xD7A3)],
+        10 => vec![random.between(0xAC00, 0xD7A3), random.pick(&OTHER_LETTERS)],
         _ => vec![random.between(0x20, 0x7E)],
     }
 }

@@ -3,15 +3,17 @@
 
 use crate::facts::{refusal, Facts};
 use crate::gathering::{clustered, gathered_form};
-use crate::gathering_cases::{FINALS, GATHERED, PEAKS};
-use crate::letters::LIMIT;
+use crate::gathering_cases::GATHERED;
+use crate::letters::{added_letters, LIMIT};
 use crate::random::Random;
 use crate::simple::{clusters, is_cluster, simple_form, simple_letters};
+use crate::simple_texts::OF_THREE;
 
 pub fn state_all(facts: &mut Facts) {
     known_forms(facts);
+    known_forms_of_added_letters(facts);
     every_cluster(facts);
-    simple_peaks_and_finals(facts);
+    clusters_of_three(facts);
     seeded_texts(facts);
     refused_texts(facts);
 }
@@ -35,7 +37,35 @@ fn known_forms(facts: &mut Facts) {
         (&[0x1173, 0x1175, 0x116E], &[0x1197]),
         (&[0xAE30, 0x1161], &[0x1100, 0x1198]),
         (&[0x119E, 0x119E, 0x119E], &[0x11A2, 0x119E]),
-        (&[0xAC13, 0x11BA, 0x11A8], &[0xAC14, 0x11A8]),
+        (&[0xAC13, 0x11BA, 0x11AF], &[0xAC14, 0x11AF]),
+    ];
+    for (text, form) in known {
+        facts.state(
+            &format!("{text:X?} gathers to {form:X?}"),
+            gathered_form(text) == form,
+        );
+    }
+}
+
+/// What gathers to the letters that Unicode 5.2 added, and what nearly does.
+fn known_forms_of_added_letters(facts: &mut Facts) {
+    let known: [(&[u32], &[u32]); 16] = [
+        (&[0x1103, 0x1106, 0x1161], &[0xA960, 0x1161]),
+        (&[0xA960, 0x1161], &[0xA960, 0x1161]),
+        (&[0x1103, 0xB9C8], &[0xA960, 0x1161]),
+        (&[0x1103, 0xAC00], &[0x1117, 0x1161]),
+        (&[0x1100, 0x1103], &[0x115A]),
+        (&[0x1105, 0x1100], &[0xA964]),
+        (&[0x1105, 0x1100, 0x1100], &[0xA965]),
+        (&[0x1105, 0x1101], &[0xA965]),
+        (&[0xA964, 0x1100], &[0xA965]),
+        (&[0xA964, 0x1103], &[0xA964, 0x1103]),
+        (&[0x1105, 0x1100, 0x1100, 0x1100], &[0xA965, 0x1100]),
+        (&[0x1169, 0x1163, 0x1175], &[0x11A7]),
+        (&[0x11A6, 0x1175], &[0x11A7]),
+        (&[0xAC00, 0x11A7], &[0x1100, 0x1176, 0x1164]),
+        (&[0xAC13, 0x11BA, 0x11A8], &[0xAC00, 0xD7EC]),
+        (&[0xAC00, 0x11C1, 0x11C0], &[0xAC00, 0xD7FB]),
     ];
     for (text, form) in known {
         facts.state(
@@ -50,14 +80,36 @@ fn every_cluster(facts: &mut Facts) {
         .into_iter()
         .all(|code| clustered(&simple_letters(code)) == [code]);
     facts.state("the letters of every cluster gather to it", whole);
+    let old = added_letters()
+        .into_iter()
+        .all(|code| gathered_form(&simple_letters(code)) == [code]);
+    facts.state("those of each added letter do, and nothing joins", old);
 }
 
-/// Every run of these is tried.
-fn simple_peaks_and_finals(facts: &mut Facts) {
-    let peaks = (0x1161..=0x11A2).filter(|&code| !is_cluster(code));
-    facts.state("eleven peaks are simple", peaks.eq(PEAKS));
-    let finals = (0x11A8..=0x11F9).filter(|&code| !is_cluster(code));
-    facts.state("seventeen finals are simple", finals.eq(FINALS));
+/// Two letters are a cluster, and a third makes another of it, which may stand in another table.
+fn clusters_of_three(facts: &mut Facts) {
+    let first_two = |code| match clustered(&simple_letters(code)[..2])[..] {
+        [cluster] if is_cluster(cluster) => Some(cluster),
+        _ => None,
+    };
+    facts.state(
+        "the first two letters of every cluster of three are one",
+        OF_THREE.into_iter().all(|code| first_two(code).is_some()),
+    );
+    let in_block = |code: u32| code <= 0x11FF;
+    for (three, two, expected) in [
+        (true, true, 29),
+        (true, false, 2),
+        (false, true, 23),
+        (false, false, 12),
+    ] {
+        let count = OF_THREE.into_iter().filter(|&code| {
+            let cluster = first_two(code);
+            in_block(code) == three && cluster.is_some_and(in_block) == two
+        });
+        let fact = format!("{expected} have three in the block: {three}, two: {two}");
+        facts.state(&fact, count.count() == expected);
+    }
 }
 
 /// Of seeded texts: the simple form stays, gathering again changes nothing, and letters alone

@@ -8,7 +8,7 @@ fn lv_of(initial: u32, peak: u32) -> u32 {
     S_BASE + (initial - L_BASE) * N_COUNT + (peak - V_BASE) * T_COUNT
 }
 
-/// The syllable of an LV and a modern final. 11A7 is none, so the difference is never 0.
+/// The syllable of an LV and a modern final. 11A7 is a peak, so the difference is never 0.
 fn lvt_of(lv: u32, last: u32) -> u32 {
     lv + (last - T_BASE)
 }
@@ -20,11 +20,11 @@ fn lvt_of(lv: u32, last: u32) -> u32 {
 fn front(text: &[u32], sorts: &[Sort]) -> (u32, usize) {
     use Sort::{Lv, ModernFinal, ModernInitial, ModernPeak};
     match sorts {
-        [ModernInitial, ModernPeak, ModernFinal, ..] => {
+        [ModernInitial(_), ModernPeak(_), ModernFinal(_), ..] => {
             (lvt_of(lv_of(text[0], text[1]), text[2]), 3)
         }
-        [ModernInitial, ModernPeak, ..] => (lv_of(text[0], text[1]), 2),
-        [Lv, ModernFinal, ..] => (lvt_of(text[0], text[1]), 2),
+        [ModernInitial(_), ModernPeak(_), ..] => (lv_of(text[0], text[1]), 2),
+        [Lv, ModernFinal(_), ..] => (lvt_of(text[0], text[1]), 2),
         _ => (text[0], 1),
     }
 }

@@ -3,7 +3,7 @@
 
 use crate::joining::joined;
 use crate::kinds::{no_calls, Kind};
-use crate::letters::is_bad;
+use crate::letters::{added_letters, is_bad};
 use crate::text_kinds::{packed, TextKind};
 use crate::texts;
 use crate::wire::{Call, Shape, Width};
@@ -42,15 +42,16 @@ pub const JOINED: TextKind = TextKind {
 const WALL: u32 = 0x41;
 
 /// First, second and third of the triples: the ends of the ranges that join and their neighbours,
-/// LV and LVT, what only looks like a letter, and a mark.
-const FIRSTS: [u32; 11] = [
-    0x1100, 0x1112, 0x10FF, 0x1113, 0x1161, 0x11A8, 0xAC00, 0xAC01, 0xAC1B, 0xD788, 0xD7A3,
+/// LV and LVT, old letters of the later blocks, what only looks like a letter, and a mark.
+const FIRSTS: [u32; 12] = [
+    0x1100, 0x1112, 0x10FF, 0x1113, 0xA960, 0x1161, 0x11A8, 0xAC00, 0xAC01, 0xAC1B, 0xD788, 0xD7A3,
 ];
-const SECONDS: [u32; 12] = [
-    0x1161, 0x1175, 0x1160, 0x1176, 0x11A7, 0x11A8, 0x11C2, 0x11C3, 0x1100, 0xAC00, 0x302E, 0x115F,
+const SECONDS: [u32; 13] = [
+    0x1161, 0x1175, 0x1160, 0x1176, 0x11A7, 0xD7B0, 0x11A8, 0x11C2, 0x11C3, 0x1100, 0xAC00, 0x302E,
+    0x115F,
 ];
-const THIRDS: [u32; 8] = [
-    0x11A8, 0x11C2, 0x11A7, 0x11C3, 0x1161, 0x1100, 0xAC00, 0x302F,
+const THIRDS: [u32; 9] = [
+    0x11A8, 0x11C2, 0x11A7, 0x11C3, 0xD7CB, 0x1161, 0x1100, 0xAC00, 0x302F,
 ];
 
 /// A mark and a joiner; good code points that are letters or syllables again when bits are lost;
@@ -88,8 +89,31 @@ fn triples() -> Vec<Vec<u32>> {
     triples
 }
 
+/// Each letter that Unicode 5.2 added: alone, before and after a modern letter of each place and a
+/// syllable, and in place of each letter of a spelled syllable. None of them joins.
+fn added_beside_modern() -> Vec<Vec<u32>> {
+    let mut pieces = Vec::new();
+    for code in added_letters() {
+        pieces.push(vec![code]);
+        for modern in [
+            0x1100, 0x1112, 0x1161, 0x1175, 0x11A8, 0x11C2, 0xAC00, 0xAC01,
+        ] {
+            pieces.push(vec![code, modern]);
+            pieces.push(vec![modern, code]);
+        }
+        pieces.push(vec![code, 0x1161, 0x11A8]);
+        pieces.push(vec![0x1100, code, 0x11A8]);
+        pieces.push(vec![0x1100, 0x1161, code]);
+        pieces.push(vec![0x1100, code, 0x1161, code, 0x11A8]);
+        pieces.push(vec![code, code]);
+    }
+    pieces
+}
+
 fn is_near_hangul(code: u32) -> bool {
-    (0x10FE..=0x1201).contains(&code) || (0xABFE..=0xD7A5).contains(&code)
+    (0x10FE..=0x1201).contains(&code)
+        || (0xA95E..=0xA97E).contains(&code)
+        || (0xABFE..=0xD7FD).contains(&code)
 }
 
 /// All pairs of boundaries and of strange code points, those of letters and syllables first.
@@ -148,6 +172,7 @@ fn edges() -> Vec<Call> {
     let mut calls = JOINED.no_text();
     calls.extend(JOINED.long_spoilt());
     calls.extend(in_long_texts(triples()));
+    calls.extend(in_long_texts(added_beside_modern()));
     calls.extend(in_long_texts(pairs()));
     calls.extend(JOINED.short_spoilt());
     calls.extend(JOINED.long_good());
@@ -207,6 +232,7 @@ fn every() -> Vec<Call> {
     }
     calls.extend(one_by_one(every_syllable_and_final()));
     calls.extend(every_scalar_value());
+    calls.extend(one_by_one(added_beside_modern()));
     calls.extend(one_by_one(triples()));
     calls.extend(one_by_one(pairs()));
     calls
@@ -219,6 +245,10 @@ fn stored() -> Vec<Call> {
         (&[], 0),
         (&[], 1),
         (&[0x1100, 0x1161, 0x11A7], 2),
+        (&[0x1100, 0x11A7, 0x11A8], 3),
+        (&[0xA960, 0x1161, 0x11A8], 3),
+        (&[0x1100, 0xD7B0, 0xAC00, 0xD7CB], 4),
+        (&[0x1100, 0xD7B0, 0xAC00, 0xD7CB], 3),
         (&[0x1100, 0x1161, 0x11C3], 3),
         (&[0xAC01, 0x11A8], 2),
         (&[0x1100, 0x1100, 0x1161], 2),

@@ -11,6 +11,7 @@ use std::collections::{HashMap, HashSet};
 
 pub fn state_all(facts: &mut Facts) {
     known_joinings(facts);
+    letters_that_do_not_join(facts);
     joining_over_all_syllables(facts);
     joining_of_seeded_texts(facts);
     joining_of_short_texts(facts);
@@ -48,6 +49,37 @@ fn known_joinings(facts: &mut Facts) {
     ];
     let whole = [0xD55C, 0xAE00, 0x20, 0x1F6A2];
     facts.state("a spelled word joins", joined(&word) == whole);
+}
+
+/// The letters that Unicode 5.2 added, between any two of the code points that join and of these
+/// letters: they stay, and hold the others off.
+fn letters_that_do_not_join(facts: &mut Facts) {
+    let known: [(&[u32], &[u32]); 6] = [
+        (&[0x1100, 0x11A7], &[0x1100, 0x11A7]),
+        (&[0xAC00, 0x11A7], &[0xAC00, 0x11A7]),
+        (&[0x1100, 0x11A7, 0x11A8], &[0x1100, 0x11A7, 0x11A8]),
+        (&[0xA960, 0x1161, 0x11A8], &[0xA960, 0x1161, 0x11A8]),
+        (&[0x1100, 0x1161, 0xD7CB], &[0xAC00, 0xD7CB]),
+        (&[0x115A, 0x1100, 0x1161], &[0x115A, 0xAC00]),
+    ];
+    for (text, whole) in known {
+        let fact = format!("{text:04X?} joins to {whole:04X?}");
+        facts.state(&fact, joined(text) == whole);
+    }
+    let modern = (0x1100..=0x1112)
+        .chain(0x1161..=0x1175)
+        .chain(0x11A8..=0x11C2);
+    let beside: Vec<u32> = modern
+        .chain([0xAC00, 0xAC01, 0xD788, 0xD7A3])
+        .chain(ADDED_RANGES.map(|(first, _)| first))
+        .collect();
+    let stay = added_letters().into_iter().all(|code| {
+        let mut pairs = beside
+            .iter()
+            .flat_map(|&before| beside.iter().map(move |&after| [before, code, after]));
+        pairs.all(|text| joined(&text) == text)
+    });
+    facts.state("no added letter joins with anything", stay);
 }
 
 fn joining_over_all_syllables(facts: &mut Facts) {

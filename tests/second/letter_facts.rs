@@ -1,8 +1,11 @@
 // Facts about sorts, one step, full parts and their refusals, from the Standard and the rules.
 // It runs no program and makes no cases; it holds only the definitions of the letters to account.
 
+use crate::cases::SORTER;
 use crate::facts::{refusal, Facts, TextCase};
 use crate::letters::*;
+use crate::simple::is_cluster;
+use crate::wire::Call;
 use std::collections::HashSet;
 
 pub fn state_all(facts: &mut Facts) {
@@ -10,6 +13,9 @@ pub fn state_all(facts: &mut Facts) {
     known_syllables(facts);
     counts(facts);
     sorts(facts);
+    numbers_of_sorts(facts);
+    makes(facts);
+    added(facts);
     parts_over_all_syllables(facts);
     other_code_points(facts);
     refused_codes(facts);
@@ -72,16 +78,28 @@ fn count(sort: Sort) -> usize {
 }
 
 fn counts(facts: &mut Facts) {
-    let expected = [19, 71, 1, 1, 21, 45, 27, 55, 399, 10_773];
+    let expected = [
+        14, 5, 9, 96, 1, 1, 10, 11, 1, 72, 14, 13, 3, 107, 399, 10_773,
+    ];
     for ((sort, name), expected) in SORTS.into_iter().zip(expected) {
         facts.state(
             &format!("there are {expected} of sort {name}"),
             count(sort) == expected,
         );
     }
-    let letters = 90 + 66 + 82;
+    for (place, sorts, count) in [
+        ("initials", 0..4, 124),
+        ("peaks", 6..10, 94),
+        ("finals", 10..14, 137),
+    ] {
+        let all: usize = expected[sorts].iter().sum();
+        facts.state(&format!("there are {count} {place}"), all == count);
+    }
+    let letters = 124 + 94 + 137;
     let others = 0x11_0000 - letters - 2 - 11_172;
     facts.state("all else is other", count(Sort::Other) == others);
+    let is_one = (0..=0x10_FFFF).filter(|&code| is_letter(code));
+    facts.state("there are 355 letters", is_one.count() == letters);
     facts.state(
         "there are 11172 syllables",
         S_COUNT == 11_172 && N_COUNT == 588,
@@ -93,30 +111,119 @@ fn counts(facts: &mut Facts) {
 }
 
 fn sorts(facts: &mut Facts) {
-    for gap in [
-        0x115A..=0x115E,
-        0x11A3..=0x11A7,
-        0x11FA..=0x11FF,
-        0x10FF..=0x10FF,
+    let alike = |first: u32, last: u32, sort: Sort| {
+        let mut codes = first..=last;
+        codes.all(|code| sort_of(code) == sort)
+    };
+    for (first, last, sort) in [
+        (0x115A, 0x115E, Sort::OldInitial(Make::Cluster)),
+        (0x11A3, 0x11A7, Sort::OldPeak(Make::Cluster)),
+        (0x11FA, 0x11FF, Sort::OldFinal(Make::Cluster)),
+        (0xA960, 0xA97C, Sort::OldInitial(Make::Cluster)),
+        (0xD7B0, 0xD7C6, Sort::OldPeak(Make::Cluster)),
+        (0xD7CB, 0xD7FB, Sort::OldFinal(Make::Cluster)),
+        (0x10FF, 0x10FF, Sort::Other),
+        (0x1200, 0xA95F, Sort::Other),
+        (0xA97D, 0xABFF, Sort::Other),
+        (0xD7A4, 0xD7AF, Sort::Other),
+        (0xD7C7, 0xD7CA, Sort::Other),
+        (0xD7FC, 0xD7FF, Sort::Other),
     ] {
-        let name = format!("{gap:04X?} are other");
-        facts.state(
-            &name,
-            gap.into_iter().all(|code| sort_of(code) == Sort::Other),
-        );
+        let fact = format!("{first:04X} to {last:04X} are {sort:?}");
+        facts.state(&fact, alike(first, last, sort));
     }
-    facts.state("11A7 is no final", sort_of(0x11A7) == Sort::Other);
-    facts.state("ABFF is other", sort_of(0xABFF) == Sort::Other);
-    facts.state("D7A4 is other", sort_of(0xD7A4) == Sort::Other);
+    let peak = matches!(sort_of(0x11A7), Sort::OldPeak(_));
+    facts.state("11A7 is an old peak and no final", peak);
     facts.state("AC1C is an LV", sort_of(0xAC1C) == Sort::Lv);
     facts.state("AC1B is an LVT", sort_of(0xAC1B) == Sort::Lvt);
     let rising = LETTER_RANGES.windows(2).all(|pair| pair[0].1 < pair[1].0);
     facts.state("the ranges do not overlap", rising);
-    let numbered = SORTS
-        .iter()
-        .enumerate()
-        .all(|(number, &(sort, _))| sort as usize == number);
-    facts.state("the sorts stand in the order of their numbers", numbered);
+    let mut block = 0x1100..=0x11FF;
+    facts.state(
+        "each code of the letters' block is a letter or a filler",
+        block.all(|code| is_letter(code) != (code == 0x115F || code == 0x1160)),
+    );
+}
+
+/// A code of each sort, with the number that docs/CALLS.md gives to it.
+fn numbers_of_sorts(facts: &mut Facts) {
+    let known = [
+        0x1100, 0x1101, 0x113C, 0x1113, 0x115F, 0x1160, 0x1161, 0x1162, 0x119E, 0x1176, 0x11A8,
+        0x11A9, 0x11EB, 0x11C3, 0xAC00, 0xAC01, 0x0041,
+    ];
+    for (number, code) in (0..).zip(known) {
+        let answer = (SORTER.answer)(&Call {
+            kind: SORTER.number,
+            x: code,
+            ..Call::default()
+        });
+        let numbers = [answer.refusal, answer.value, answer.second, answer.third];
+        let fact = format!("the sort of {code:04X} has number {number}");
+        facts.state(&fact, numbers == [0, number, 0, 0]);
+    }
+    let distinct: HashSet<String> = SORTS.iter().map(|(sort, _)| format!("{sort:?}")).collect();
+    facts.state("17 sorts have a number", distinct.len() == 17);
+}
+
+/// What a letter is made of; None for all that is no letter.
+fn make_of(code: u32) -> Option<Make> {
+    match sort_of(code) {
+        Sort::ModernInitial(make) | Sort::ModernPeak(make) | Sort::ModernFinal(make) => Some(make),
+        Sort::OldInitial(make) | Sort::OldPeak(make) | Sort::OldFinal(make) => Some(make),
+        _ => None,
+    }
+}
+
+/// Two ways to what a letter is made of: the list of simple letters, and the letters' names.
+fn makes(facts: &mut Facts) {
+    let agree = (0..=0x10_FFFF).all(|code| match make_of(code) {
+        Some(make) => is_letter(code) && is_cluster(code) == (make == Make::Cluster),
+        None => !is_letter(code) && !is_cluster(code),
+    });
+    facts.state(
+        "the sorter says cluster exactly where the name spells several letters",
+        agree,
+    );
+    for (make, expected) in [(Make::Simple, 51), (Make::Cluster, 304)] {
+        let letters = (0..=0x10_FFFF).filter(|&code| make_of(code) == Some(make));
+        let fact = format!("{expected} letters are {make:?}");
+        facts.state(&fact, letters.count() == expected);
+    }
+}
+
+/// What was a letter or a filler before Unicode 5.2 added some.
+const BEFORE: [(u32, u32); 4] = [
+    (0x1100, 0x1159),
+    (0x115F, 0x1160),
+    (0x1161, 0x11A2),
+    (0x11A8, 0x11F9),
+];
+
+/// The letters that Unicode 5.2 added: how many, that they were other, and what they are.
+fn added(facts: &mut Facts) {
+    for ((first, last), expected) in ADDED_RANGES.into_iter().zip([5, 5, 6, 29, 23, 49]) {
+        let fact = format!("{expected} letters were added at {first:04X}");
+        facts.state(&fact, last - first + 1 == expected);
+    }
+    facts.state("117 were added in all", added_letters().len() == 117);
+    let was_known = |code| {
+        let mut ranges = BEFORE.into_iter();
+        ranges.any(|(first, last)| first <= code && code <= last)
+    };
+    let mut added = added_letters().into_iter();
+    facts.state("each was other", added.all(|code| !was_known(code)));
+    let others = (0..=0x10_FFFF).all(|code| match sort_of(code) {
+        Sort::Other => !was_known(code) && !is_added(code),
+        Sort::Lv | Sort::Lvt => !was_known(code) && !is_added(code),
+        _ => was_known(code) != is_added(code),
+    });
+    facts.state("nothing else came or went", others);
+    let old = added_letters().into_iter().all(|code| {
+        let sorts = [Sort::OldInitial, Sort::OldPeak, Sort::OldFinal];
+        let mut sorts = sorts.into_iter().map(|sort| sort(Make::Cluster));
+        sorts.any(|sort| sort_of(code) == sort)
+    });
+    facts.state("each is old and a cluster", old);
 }
 
 /// The one step taken again on each part until nothing changes.
@@ -154,7 +261,7 @@ fn parts_over_all_syllables(facts: &mut Facts) {
     state_for_all_syllables(facts, "the parts are modern letters in order", |code| {
         let order = [Sort::ModernInitial, Sort::ModernPeak, Sort::ModernFinal];
         let mut pairs = full_parts(code).into_iter().zip(order);
-        pairs.all(|(part, sort)| sort_of(part) == sort)
+        pairs.all(|(part, sort)| make_of(part).map(sort) == Some(sort_of(part)))
     });
     let syllables: Vec<u32> = (0xAC00..=0xD7A3).collect();
     let distinct: HashSet<Vec<u32>> = syllables.iter().map(|&code| full_parts(code)).collect();

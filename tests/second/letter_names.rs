@@ -38,8 +38,61 @@ pub const FINALS: &str = "KIYEOK SSANGKIYEOK KIYEOK-SIOS NIEUN NIEUN-CIEUC NIEUN
     YESIEUNG-PANSIOS PHIEUPH-PIEUP KAPYEOUNPHIEUPH HIEUH-NIEUN HIEUH-RIEUL HIEUH-MIEUM \
     HIEUH-PIEUP YEORINHIEUH";
 
-/// The names of each place, with the code of the first.
-const PLACES: [(u32, &str); 3] = [(0x1100, INITIALS), (0x1161, PEAKS), (0x11A8, FINALS)];
+/// HANGUL CHOSEONG, from 115A: five old initials that Unicode 5.2 added.
+pub const ADDED_INITIALS: &str = "KIYEOK-TIKEUT NIEUN-SIOS NIEUN-CIEUC NIEUN-HIEUH TIKEUT-RIEUL";
+
+/// HANGUL JUNGSEONG, from 11A3: five old peaks likewise.
+pub const ADDED_PEAKS: &str = "A-EU YA-U YEO-YA O-YA O-YAE";
+
+/// HANGUL JONGSEONG, from 11FA: six old finals likewise.
+pub const ADDED_FINALS: &str = "KIYEOK-NIEUN KIYEOK-PIEUP KIYEOK-CHIEUCH KIYEOK-KHIEUKH \
+    KIYEOK-HIEUH SSANGNIEUN";
+
+/// HANGUL CHOSEONG, from A960: 29 old initials likewise.
+pub const EXTENDED_INITIALS: &str = "TIKEUT-MIEUM TIKEUT-PIEUP TIKEUT-SIOS TIKEUT-CIEUC \
+    RIEUL-KIYEOK RIEUL-SSANGKIYEOK RIEUL-TIKEUT RIEUL-SSANGTIKEUT RIEUL-MIEUM RIEUL-PIEUP \
+    RIEUL-SSANGPIEUP RIEUL-KAPYEOUNPIEUP RIEUL-SIOS RIEUL-CIEUC RIEUL-KHIEUKH MIEUM-KIYEOK \
+    MIEUM-TIKEUT MIEUM-SIOS PIEUP-SIOS-THIEUTH PIEUP-KHIEUKH PIEUP-HIEUH SSANGSIOS-PIEUP \
+    IEUNG-RIEUL IEUNG-HIEUH SSANGCIEUC-HIEUH SSANGTHIEUTH PHIEUPH-HIEUH HIEUH-SIOS \
+    SSANGYEORINHIEUH";
+
+/// HANGUL JUNGSEONG, from D7B0: 23 old peaks likewise.
+pub const EXTENDED_PEAKS: &str = "O-YEO O-O-I YO-A YO-AE YO-EO U-YEO U-I-I YU-AE YU-O EU-A EU-EO \
+    EU-E EU-O I-YA-O I-YAE I-YEO I-YE I-O-I I-YO I-YU I-I ARAEA-A ARAEA-E";
+
+/// HANGUL JONGSEONG, from D7CB: 49 old finals likewise.
+pub const EXTENDED_FINALS: &str = "NIEUN-RIEUL NIEUN-CHIEUCH SSANGTIKEUT SSANGTIKEUT-PIEUP \
+    TIKEUT-PIEUP TIKEUT-SIOS TIKEUT-SIOS-KIYEOK TIKEUT-CIEUC TIKEUT-CHIEUCH TIKEUT-THIEUTH \
+    RIEUL-SSANGKIYEOK RIEUL-KIYEOK-HIEUH SSANGRIEUL-KHIEUKH RIEUL-MIEUM-HIEUH \
+    RIEUL-PIEUP-TIKEUT RIEUL-PIEUP-PHIEUPH RIEUL-YESIEUNG RIEUL-YEORINHIEUH-HIEUH \
+    KAPYEOUNRIEUL MIEUM-NIEUN MIEUM-SSANGNIEUN SSANGMIEUM MIEUM-PIEUP-SIOS MIEUM-CIEUC \
+    PIEUP-TIKEUT PIEUP-RIEUL-PHIEUPH PIEUP-MIEUM SSANGPIEUP PIEUP-SIOS-TIKEUT PIEUP-CIEUC \
+    PIEUP-CHIEUCH SIOS-MIEUM SIOS-KAPYEOUNPIEUP SSANGSIOS-KIYEOK SSANGSIOS-TIKEUT SIOS-PANSIOS \
+    SIOS-CIEUC SIOS-CHIEUCH SIOS-THIEUTH SIOS-HIEUH PANSIOS-PIEUP PANSIOS-KAPYEOUNPIEUP \
+    YESIEUNG-MIEUM YESIEUNG-HIEUH CIEUC-PIEUP CIEUC-SSANGPIEUP SSANGCIEUC PHIEUPH-SIOS \
+    PHIEUPH-THIEUTH";
+
+/// Names that follow each other, with the code of the first.
+type Listed = (u32, &'static str);
+
+/// All names of each place: initials, peaks, finals.
+pub const PLACES: [[Listed; 3]; 3] = [
+    [
+        (0x1100, INITIALS),
+        (0x115A, ADDED_INITIALS),
+        (0xA960, EXTENDED_INITIALS),
+    ],
+    [
+        (0x1161, PEAKS),
+        (0x11A3, ADDED_PEAKS),
+        (0xD7B0, EXTENDED_PEAKS),
+    ],
+    [
+        (0x11A8, FINALS),
+        (0x11FA, ADDED_FINALS),
+        (0xD7CB, EXTENDED_FINALS),
+    ],
+];
 
 /// Names of peaks that do not spell their letters, and these.
 const VOWELS: [(&str, &str); 11] = [
@@ -94,31 +147,43 @@ pub fn place_in(names: &str, name: &str) -> Option<u32> {
         .map(|(place, _)| place)
 }
 
+/// The name of a code among those of a place.
+fn name_of(code: u32, place: &[Listed]) -> Option<&'static str> {
+    place.iter().find_map(|&(first, names)| {
+        let index = code.checked_sub(first)?;
+        names.split(' ').nth(index as usize)
+    })
+}
+
+/// The code of a name among those of a place.
+fn code_of(name: &str, place: &[Listed]) -> Option<u32> {
+    let mut lists = place.iter();
+    lists.find_map(|&(first, names)| place_in(names, name).map(|index| first + index))
+}
+
 /// The letters that the name of a code spells, or the code itself where it has none of the names.
 fn letters_of(code: u32) -> Vec<u32> {
-    for (first, names) in PLACES {
-        let name = code
-            .checked_sub(first)
-            .and_then(|place| names.split(' ').nth(place as usize));
-        if let Some(name) = name {
-            let places = spelled(name)
+    for place in PLACES {
+        if let Some(name) = name_of(code, &place) {
+            let codes = spelled(name)
                 .into_iter()
-                .map(|letter| place_in(names, &letter));
-            return places
-                .map(|place| first + place.expect("each letter has a name of its own"))
+                .map(|letter| code_of(&letter, &place));
+            return codes
+                .map(|code| code.expect("each letter has a name of its own"))
                 .collect();
         }
     }
     vec![code]
 }
 
-/// The table: a row of three numbers for each code from 1100 to 11FF, with 0 after the letters.
-pub fn rows() -> Vec<[u32; 3]> {
+/// A table: a row of three numbers for each code from the first to the last, with 0 after the
+/// letters.
+pub fn rows(first: u32, last: u32) -> Vec<[u32; 3]> {
     let row = |code| {
         let mut row = [0; 3];
         let letters = letters_of(code);
         row[..letters.len()].copy_from_slice(&letters);
         row
     };
-    (0x1100..=0x11FF).map(row).collect()
+    (first..=last).map(row).collect()
 }

@@ -15,52 +15,111 @@ pub const S_COUNT: u32 = L_COUNT * N_COUNT;
 /// The largest number of code points, or of bytes, that a call takes.
 pub const LIMIT: usize = 16_384;
 
-/// The sorts in the order of their numbers on the wire.
+/// What a letter is: simple, or two or three simple letters written as one.
+#[derive(Clone, Copy, Debug, PartialEq, Eq)]
+pub enum Make {
+    Simple,
+    Cluster,
+}
+
 #[derive(Clone, Copy, Debug, PartialEq, Eq)]
 pub enum Sort {
-    ModernInitial,
-    OldInitial,
+    ModernInitial(Make),
+    OldInitial(Make),
     InitialFiller,
     PeakFiller,
-    ModernPeak,
-    OldPeak,
-    ModernFinal,
-    OldFinal,
+    ModernPeak(Make),
+    OldPeak(Make),
+    ModernFinal(Make),
+    OldFinal(Make),
     Lv,
     Lvt,
     Other,
 }
 
-pub const SORTS: [(Sort, &str); 11] = [
-    (Sort::ModernInitial, "modern initial"),
-    (Sort::OldInitial, "old initial"),
+/// The sorts in the order of their numbers on the wire.
+pub const SORTS: [(Sort, &str); 17] = [
+    (Sort::ModernInitial(Make::Simple), "modern initial, simple"),
+    (
+        Sort::ModernInitial(Make::Cluster),
+        "modern initial, cluster",
+    ),
+    (Sort::OldInitial(Make::Simple), "old initial, simple"),
+    (Sort::OldInitial(Make::Cluster), "old initial, cluster"),
     (Sort::InitialFiller, "initial filler"),
     (Sort::PeakFiller, "peak filler"),
-    (Sort::ModernPeak, "modern peak"),
-    (Sort::OldPeak, "old peak"),
-    (Sort::ModernFinal, "modern final"),
-    (Sort::OldFinal, "old final"),
+    (Sort::ModernPeak(Make::Simple), "modern peak, simple"),
+    (Sort::ModernPeak(Make::Cluster), "modern peak, cluster"),
+    (Sort::OldPeak(Make::Simple), "old peak, simple"),
+    (Sort::OldPeak(Make::Cluster), "old peak, cluster"),
+    (Sort::ModernFinal(Make::Simple), "modern final, simple"),
+    (Sort::ModernFinal(Make::Cluster), "modern final, cluster"),
+    (Sort::OldFinal(Make::Simple), "old final, simple"),
+    (Sort::OldFinal(Make::Cluster), "old final, cluster"),
     (Sort::Lv, "LV"),
     (Sort::Lvt, "LVT"),
     (Sort::Other, "other"),
 ];
 
-/// The ranges of letters. Gaps between them, 11A7 among them, are other.
-pub const LETTER_RANGES: [(u32, u32, Sort); 8] = [
+/// A range of letters: the first, the last, and their sort but for what each is made of.
+pub type LetterRange = (u32, u32, fn(Make) -> Sort);
+
+/// The ranges of letters. 11A7 is a peak, though finals are counted from it. What stands in no
+/// range, and is no filler and no syllable, is other.
+pub const LETTER_RANGES: [LetterRange; 9] = [
     (0x1100, 0x1112, Sort::ModernInitial),
-    (0x1113, 0x1159, Sort::OldInitial),
-    (0x115F, 0x115F, Sort::InitialFiller),
-    (0x1160, 0x1160, Sort::PeakFiller),
+    (0x1113, 0x115E, Sort::OldInitial),
     (0x1161, 0x1175, Sort::ModernPeak),
-    (0x1176, 0x11A2, Sort::OldPeak),
+    (0x1176, 0x11A7, Sort::OldPeak),
     (0x11A8, 0x11C2, Sort::ModernFinal),
-    (0x11C3, 0x11F9, Sort::OldFinal),
+    (0x11C3, 0x11FF, Sort::OldFinal),
+    (0xA960, 0xA97C, Sort::OldInitial),
+    (0xD7B0, 0xD7C6, Sort::OldPeak),
+    (0xD7CB, 0xD7FB, Sort::OldFinal),
 ];
 
+/// Those of the letters that Unicode 5.2 added.
+pub const ADDED_RANGES: [(u32, u32); 6] = [
+    (0x115A, 0x115E),
+    (0x11A3, 0x11A7),
+    (0x11FA, 0x11FF),
+    (0xA960, 0xA97C),
+    (0xD7B0, 0xD7C6),
+    (0xD7CB, 0xD7FB),
+];
+
+/// The simple letters as source document 002 lists them, in sections 1.2 and 1.8: of each place the
+/// modern ones, then the old ones by their codes. Every other letter is a cluster. That the
+/// letters' names say the same is one of the facts.
+pub const SIMPLE_INITIALS: [u32; 23] = [
+    0x1100, 0x1102, 0x1103, 0x1105, 0x1106, 0x1107, 0x1109, 0x110B, 0x110C, 0x110E, 0x110F, 0x1110,
+    0x1111, 0x1112, 0x113C, 0x113E, 0x1140, 0x114C, 0x114E, 0x1150, 0x1154, 0x1155, 0x1159,
+];
+pub const SIMPLE_PEAKS: [u32; 11] = [
+    0x1161, 0x1163, 0x1165, 0x1167, 0x1169, 0x116D, 0x116E, 0x1172, 0x1173, 0x1175, 0x119E,
+];
+pub const SIMPLE_FINALS: [u32; 17] = [
+    0x11A8, 0x11AB, 0x11AE, 0x11AF, 0x11B7, 0x11B8, 0x11BA, 0x11BC, 0x11BD, 0x11BE, 0x11BF, 0x11C0,
+    0x11C1, 0x11C2, 0x11EB, 0x11F0, 0x11F9,
+];
+
+fn is_simple(letter: u32) -> bool {
+    let lists: [&[u32]; 3] = [&SIMPLE_INITIALS, &SIMPLE_PEAKS, &SIMPLE_FINALS];
+    lists.iter().any(|list| list.contains(&letter))
+}
+
 pub fn sort_of(code: u32) -> Sort {
+    match code {
+        0x115F => return Sort::InitialFiller,
+        0x1160 => return Sort::PeakFiller,
+        _ => {}
+    }
     for (first, last, sort) in LETTER_RANGES {
         if first <= code && code <= last {
-            return sort;
+            return sort(match is_simple(code) {
+                true => Make::Simple,
+                false => Make::Cluster,
+            });
         }
     }
     if !is_syllable(code) {
@@ -71,6 +130,22 @@ pub fn sort_of(code: u32) -> Sort {
     } else {
         Sort::Lvt
     }
+}
+
+pub fn is_letter(code: u32) -> bool {
+    let mut ranges = LETTER_RANGES.into_iter();
+    ranges.any(|(first, last, _)| first <= code && code <= last)
+}
+
+pub fn is_added(code: u32) -> bool {
+    let mut ranges = ADDED_RANGES.into_iter();
+    ranges.any(|(first, last)| first <= code && code <= last)
+}
+
+/// The letters that Unicode 5.2 added, all of them.
+pub fn added_letters() -> Vec<u32> {
+    let ranges = ADDED_RANGES.into_iter();
+    ranges.flat_map(|(first, last)| first..=last).collect()
 }
 
 pub fn is_syllable(code: u32) -> bool {

@@ -168,7 +168,7 @@ fn byte_random(random: &mut Random) -> Call {
     with_all_unused(byte_call(pair), random)
 }
 
-const STORED: [(&str, &str); 22] = [
+const STORED: [(&str, &str); 24] = [
     ("2", "10"),
     ("", ""),
     ("", "0"),
@@ -185,6 +185,8 @@ const STORED: [(&str, &str); 22] = [
     ("\u{1100}1\u{1161}", "\u{AC00}1"),
     ("\u{AC01}\u{11A8}", "\u{AC01}"),
     ("\u{1100}\u{1161}\u{11A7}", "\u{AC01}"),
+    ("\u{1100}\u{11A7}", "\u{AC00}"),
+    ("\u{A960}\u{1161}", "\u{A960}\u{1100}\u{1161}"),
     ("\u{D478} 10", "\u{1111}\u{116E} 2"),
     ("\u{FF11}", "2"),
     ("\u{661}", "\u{662}"),

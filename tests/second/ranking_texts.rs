@@ -16,7 +16,7 @@ pub type Pair<Element> = (Vec<Element>, Vec<Element>);
 /// Labels in rising order; those on one line rank equal. From the rules alone: numbers by value,
 /// before code points; the beginning first; joined before all else; only ASCII digits are digits.
 #[rustfmt::skip]
-pub const IN_ORDER: [&[&str]; 67] = [
+pub const IN_ORDER: [&[&str]; 75] = [
     &[""],
     &["0", "00", "0000000000000000000000000000000000000000000"],
     &["0\0"],
@@ -63,10 +63,16 @@ pub const IN_ORDER: [&[&str]; 67] = [
     &["\u{661}"],
     &["\u{1100}"],
     &["\u{1100}1\u{1161}", "\u{1100}01\u{1161}"],
+    &["\u{1100}\u{11A7}\u{11A8}"],
     &["\u{1100}\u{302E}\u{1161}"],
     &["\u{1100}\u{AC00}", "\u{1100}\u{1100}\u{1161}"],
+    &["\u{115A}\u{1161}"],
     &["\u{1161}"],
+    &["\u{11A7}"],
     &["\u{11A8}"],
+    &["\u{11FF}"],
+    &["\u{A960}\u{1161}\u{11A8}"],
+    &["\u{A960}\u{AC00}", "\u{A960}\u{1100}\u{1161}"],
     &["\u{AC00}", "\u{1100}\u{1161}"],
     &["\u{AC00}7", "\u{1100}\u{1161}07"],
     &["\u{AC00}10", "\u{1100}\u{1161}10"],
@@ -77,6 +83,8 @@ pub const IN_ORDER: [&[&str]; 67] = [
     &["\u{D478}\u{B978} 2", "\u{1111}\u{116E}\u{1105}\u{1173}\u{11AB} 02"],
     &["\u{D478}\u{B978} 10", "\u{1111}\u{116E}\u{B974}\u{11AB} 10"],
     &["\u{D7A3}", "\u{D788}\u{11C2}", "\u{1112}\u{1175}\u{11C2}"],
+    &["\u{D7B0}"],
+    &["\u{D7FB}"],
     &["\u{FF11}"],
     &["\u{FF12}"],
     &["\u{FFFD}"],
@@ -340,7 +348,9 @@ fn piece(random: &mut Random) -> Vec<u32> {
             texts::joining_text(random, count)
         }
         6 => vec![0x1100, digit(random), 0x1161],
-        7 => vec![random.pick(&[0xAC00, 0xAC01, 0xAC02, 0xAC1C, 0x1100, 0x1161, 0x11A8])],
+        7 => vec![random.pick(&[
+            0xAC00, 0xAC01, 0xAC02, 0xAC1C, 0x1100, 0x1161, 0x11A7, 0x11A8, 0xA960, 0xD7B0, 0xD7CB,
+        ])],
         _ => vec![texts::good_code(random)],
     }
 }

@@ -1,25 +1,54 @@
-// The definition of the simple form: full parts, then each letter's row of the table of clusters.
+// The definition of the simple form: full parts, then each letter's row of the tables of clusters.
 // It makes no cases and knows no refusals; it aims at plainness, not at speed.
 
 use crate::letter_names::rows;
 use crate::letters::full_parts_of_text;
 
-/// The codes that have a row.
-pub const TABLE_FIRST: u32 = 0x1100;
-pub const TABLE_LAST: u32 = 0x11FF;
+/// The codes that have a row, first and last of each range: the table of the letters' block, and
+/// that of the letters outside it.
+pub const TABLE: (u32, u32) = (0x1100, 0x11FF);
+pub const EXTENDED: [(u32, u32); 3] = [(0xA960, 0xA97C), (0xD7B0, 0xD7C6), (0xD7CB, 0xD7FB)];
 
-thread_local! {
-    /// Made once, since the names are long.
-    static ROWS: Vec<[u32; 3]> = rows();
+/// The ranges of both tables.
+fn ranges() -> impl Iterator<Item = (u32, u32)> {
+    [TABLE].into_iter().chain(EXTENDED)
 }
 
-/// The row of a code, zeros left out. A code outside the table is itself, also if it is 0.
+/// The codes of both tables.
+pub fn table_codes() -> Vec<u32> {
+    ranges().flat_map(|(first, last)| first..=last).collect()
+}
+
+/// The same, with the two codes on either side of each range.
+pub fn codes_around_tables() -> Vec<u32> {
+    ranges()
+        .flat_map(|(first, last)| first - 2..=last + 2)
+        .collect()
+}
+
+thread_local! {
+    /// The first code of each range and its rows, made once, since the names are long.
+    static ROWS: Vec<(u32, Vec<[u32; 3]>)> =
+        ranges().map(|(first, last)| (first, rows(first, last))).collect();
+}
+
+/// The row of a code in one of the tables.
+pub fn row_of(code: u32) -> Option<[u32; 3]> {
+    ROWS.with(|tables| {
+        let mut tables = tables.iter();
+        tables.find_map(|(first, rows)| {
+            let index = code.checked_sub(*first)?;
+            rows.get(index as usize).copied()
+        })
+    })
+}
+
+/// The row of a code, zeros left out. A code outside the tables is itself, also if it is 0.
 pub fn simple_letters(code: u32) -> Vec<u32> {
-    if !(TABLE_FIRST..=TABLE_LAST).contains(&code) {
-        return vec![code];
+    match row_of(code) {
+        Some(row) => row.into_iter().filter(|&letter| letter != 0).collect(),
+        None => vec![code],
     }
-    let row = ROWS.with(|rows| rows[(code - TABLE_FIRST) as usize]);
-    row.into_iter().filter(|&letter| letter != 0).collect()
 }
 
 pub fn is_cluster(code: u32) -> bool {
@@ -27,7 +56,7 @@ pub fn is_cluster(code: u32) -> bool {
 }
 
 pub fn clusters() -> Vec<u32> {
-    let codes = TABLE_FIRST..=TABLE_LAST;
+    let codes = table_codes().into_iter();
     codes.filter(|&code| is_cluster(code)).collect()
 }
 

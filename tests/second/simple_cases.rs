@@ -2,8 +2,8 @@
 // It defines no answers: those stand with the definition of the simple form.
 
 use crate::kinds::{no_calls, Kind};
-use crate::letters::{is_bad, LIMIT};
-use crate::simple::{clusters, simple_form, simple_letters, TABLE_FIRST, TABLE_LAST};
+use crate::letters::{added_letters, is_bad, LIMIT};
+use crate::simple::{clusters, codes_around_tables, simple_form, simple_letters};
 use crate::simple_texts::{simple_text, OF_THREE, TEMPTING_LETTERS};
 use crate::text_kinds::{packed, TextKind};
 use crate::texts;
@@ -31,19 +31,22 @@ pub const SIMPLE: TextKind = TextKind {
     whole: simple_form,
     growth: 7,
     good_text: simple_text,
-    repeated: &[&[0xAF66], &[0x1122], &[0xAC03], &[0x1140], &[0x41]],
+    repeated: &[
+        &[0xAF66],
+        &[0x1122],
+        &[0xA965],
+        &[0xAC03],
+        &[0x1140],
+        &[0x41],
+    ],
 };
-
-fn each_letter() -> Vec<u32> {
-    (TABLE_FIRST - 2..=TABLE_LAST + 2).collect()
-}
 
 fn each_syllable() -> Vec<u32> {
     (0xAC00..=0xD7A3).collect()
 }
 
-/// Every letter of the block with those of every cluster beside it: what stands beside a cluster
-/// changes nothing, and letters that would make a cluster are not gathered.
+/// Every cluster, and the letters of every cluster, with another letter on both sides: what stands
+/// beside a cluster changes nothing, and letters that would make a cluster are not gathered.
 fn beside_clusters() -> Vec<Vec<u32>> {
     let mut pieces = Vec::new();
     for cluster in clusters() {
@@ -54,6 +57,19 @@ fn beside_clusters() -> Vec<Vec<u32>> {
         }
         pieces.push([letters.clone(), letters].concat());
         pieces.push(vec![cluster, cluster, cluster]);
+    }
+    pieces
+}
+
+/// Each letter that Unicode 5.2 added in place of a modern letter in a spelled syllable, and after
+/// syllables: nothing there joins, and all of it comes apart.
+fn added_in_syllables() -> Vec<Vec<u32>> {
+    let mut pieces = Vec::new();
+    for code in added_letters() {
+        pieces.push(vec![code, 0x1162, 0x11A9]);
+        pieces.push(vec![0x1101, code, 0x11A9]);
+        pieces.push(vec![0x1101, 0x1162, code]);
+        pieces.push(vec![0xAC00, code, 0xAC03, code]);
     }
     pieces
 }
@@ -83,14 +99,14 @@ fn at_each_place() -> Vec<Call> {
 
 fn edges() -> Vec<Call> {
     let mut calls = SIMPLE.no_text();
-    for text in [each_letter(), each_syllable(), look_alikes()] {
+    for text in [codes_around_tables(), each_syllable(), look_alikes()] {
         calls.extend(SIMPLE.exact_and_short(&text));
     }
     calls.extend(SIMPLE.long_spoilt());
-    for text in packed(beside_clusters()) {
+    for text in packed(beside_clusters().into_iter().chain(added_in_syllables())) {
         calls.extend(SIMPLE.exact_and_short(&text));
     }
-    for code in each_letter() {
+    for code in codes_around_tables() {
         calls.extend(SIMPLE.in_rooms_around(&[code]));
     }
     calls.extend(SIMPLE.short_spoilt());
@@ -109,7 +125,7 @@ fn edges() -> Vec<Call> {
 /// value in texts as long as the limit allows, which no answer to one alone can show.
 fn every() -> Vec<Call> {
     let mut calls = Vec::new();
-    for code in each_letter().into_iter().chain(each_syllable()) {
+    for code in codes_around_tables().into_iter().chain(each_syllable()) {
         calls.extend(SIMPLE.in_rooms_around(&[code]));
     }
     for code in (0..=0x10_FFFF).chain(texts::numbers_beyond()) {
@@ -120,6 +136,9 @@ fn every() -> Vec<Call> {
     }
     for text in packed(beside_clusters()) {
         calls.extend(SIMPLE.exact_and_short(&text));
+    }
+    for piece in added_in_syllables() {
+        calls.extend(SIMPLE.in_rooms_around(&piece));
     }
     calls
 }
@@ -148,8 +167,11 @@ fn stored() -> Vec<Call> {
         (&[0x1176, 0x11A2, 0x11C3, 0x11F9], 6),
         (&[0x118C, 0x118E, 0x119E], 6),
         (&[0x11CF, 0x11ED, 0x11EB, 0x11F0], 8),
-        (&[0x115F, 0x1160, 0x115A, 0x11A7, 0x11FF], 6),
-        (&[0xA960, 0xD7B0, 0xD7CB, 0x3133, 0x1_1101], 5),
+        (&[0x115F, 0x1160, 0x115A, 0x11A7, 0x11FF], 9),
+        (&[0xA960, 0x1161], 3),
+        (&[0xA960, 0x1161], 2),
+        (&[0xA97C, 0xD7B0, 0xD7C6, 0xD7CB, 0xD7FB], 11),
+        (&[0xA95F, 0xA97D, 0xD7C7, 0xD7FC, 0x3133, 0x1_1101], 6),
         (&[0, 0x1F6A2, 0x302E, 0x10_FFFF], 4),
         (&[0xD55C, 0xAE00, 0x20, 0xB2ED], 11),
         (&[0xD55C, 0xAE00, 0x20, 0xB2ED], 10),

@@ -5,7 +5,7 @@ use crate::appendix;
 use crate::facts::{refusal, Facts, TextCase};
 use crate::joining::joined;
 use crate::letter_facts::state_for_all_syllables;
-use crate::letter_names::{rows, spelled, FINALS, INITIALS, PEAKS};
+use crate::letter_names::{spelled, PLACES};
 use crate::letters::*;
 use crate::random::Random;
 use crate::simple::*;
@@ -15,10 +15,13 @@ use std::collections::{HashMap, HashSet};
 
 pub fn state_all(facts: &mut Facts) {
     names(facts);
+    spellings(facts);
     counts(facts);
-    rule_of_the_table(facts);
+    rule_of_the_tables(facts);
     table_as_printed(facts);
     known_rows(facts);
+    known_rows_of_added_letters(facts);
+    rows_that_stay(facts);
     known_forms(facts);
     forms_over_all_syllables(facts);
     forms_of_other_code_points(facts);
@@ -28,19 +31,22 @@ pub fn state_all(facts: &mut Facts) {
 }
 
 fn names(facts: &mut Facts) {
-    for (place, names, expected) in [
-        ("initials", INITIALS, 90),
-        ("peaks", PEAKS, 66),
-        ("finals", FINALS, 82),
+    for (place, lists, expected) in [
+        ("initials", PLACES[0], [90, 5, 29]),
+        ("peaks", PLACES[1], [66, 5, 23]),
+        ("finals", PLACES[2], [82, 6, 49]),
     ] {
-        let distinct: HashSet<&str> = names.split(' ').collect();
-        let count = names.split(' ').count();
-        facts.state(&format!("{expected} {place} have names"), count == expected);
-        facts.state(
-            &format!("no two {place} share one"),
-            distinct.len() == count,
-        );
+        let counts = lists.map(|(_, names)| names.split(' ').count());
+        let fact = format!("{expected:?} {place} have names");
+        facts.state(&fact, counts == expected);
+        let names = lists.iter().flat_map(|(_, names)| names.split(' '));
+        let distinct: HashSet<&str> = names.collect();
+        let all: usize = counts.iter().sum();
+        facts.state(&format!("no two {place} share one"), distinct.len() == all);
     }
+}
+
+fn spellings(facts: &mut Facts) {
     let known = [
         ("PIEUP-SIOS-KIYEOK", "PIEUP SIOS KIYEOK"),
         ("SIOS-SSANGSIOS", "SIOS SIOS SIOS"),
@@ -57,6 +63,14 @@ fn names(facts: &mut Facts) {
         ("RIEUL-KAPYEOUNPIEUP", "RIEUL PIEUP IEUNG"),
         ("RIEUL-YEORINHIEUH", "RIEUL YEORINHIEUH"),
         ("IEUNG-SSANGKIYEOK", "IEUNG KIYEOK KIYEOK"),
+        ("RIEUL-SSANGKIYEOK", "RIEUL KIYEOK KIYEOK"),
+        ("SSANGSIOS-PIEUP", "SIOS SIOS PIEUP"),
+        ("SSANGYEORINHIEUH", "YEORINHIEUH YEORINHIEUH"),
+        ("PANSIOS-KAPYEOUNPIEUP", "PANSIOS PIEUP IEUNG"),
+        ("KAPYEOUNRIEUL", "RIEUL IEUNG"),
+        ("O-YAE", "O YA I"),
+        ("U-I-I", "U I I"),
+        ("ARAEA-E", "ARAEA EO I"),
     ];
     for (name, letters) in known {
         let fact = format!("{name} spells {letters}");
@@ -64,65 +78,87 @@ fn names(facts: &mut Facts) {
     }
 }
 
-/// Of each sort: how many clusters, and how many simple letters (002, table 1).
+/// The clusters and the simple letters that a list of ranges has, by the letters' names.
+fn split_ranges(ranges: &[(u32, u32)]) -> (usize, usize) {
+    let codes = ranges.iter().flat_map(|&(first, last)| first..=last);
+    let (taken, whole): (Vec<u32>, Vec<u32>) = codes.partition(|&code| is_cluster(code));
+    (taken.len(), whole.len())
+}
+
+/// How many clusters and how many simple letters there are: before Unicode 5.2 as in 002, table 1,
+/// then with the letters that it added.
 fn counts(facts: &mut Facts) {
-    let expected = [
-        (Sort::ModernInitial, 5, 14),
-        (Sort::OldInitial, 62, 9),
-        (Sort::ModernPeak, 11, 10),
-        (Sort::OldPeak, 44, 1),
-        (Sort::ModernFinal, 13, 14),
-        (Sort::OldFinal, 52, 3),
+    let expected: [(&str, &[(u32, u32)], usize, usize); 9] = [
+        ("modern initials", &[(0x1100, 0x1112)], 5, 14),
+        ("old initials in 002", &[(0x1113, 0x1159)], 62, 9),
+        ("modern peaks", &[(0x1161, 0x1175)], 11, 10),
+        ("old peaks in 002", &[(0x1176, 0x11A2)], 44, 1),
+        ("modern finals", &[(0x11A8, 0x11C2)], 13, 14),
+        ("old finals in 002", &[(0x11C3, 0x11F9)], 52, 3),
+        ("letters that 5.2 added", &ADDED_RANGES, 117, 0),
+        ("codes of the block", &[TABLE], 203, 53),
+        ("letters outside", &EXTENDED, 101, 0),
     ];
-    for (sort, complex, simple) in expected {
-        let codes = (TABLE_FIRST..=TABLE_LAST).filter(|&code| sort_of(code) == sort);
-        let (taken, whole): (Vec<u32>, Vec<u32>) = codes.partition(|&code| is_cluster(code));
-        let fact = format!("{sort:?}: {complex} clusters, {simple} others");
-        facts.state(&fact, (taken.len(), whole.len()) == (complex, simple));
+    for (what, ranges, complex, simple) in expected {
+        let fact = format!("{what}: {complex} clusters, {simple} others");
+        facts.state(&fact, split_ranges(ranges) == (complex, simple));
     }
-    facts.state("there are 187 clusters", clusters().len() == 187);
-    facts.state("the table has 768 numbers", rows().concat().len() == 768);
+    facts.state("there are 304 clusters", clusters().len() == 304);
+    let numbers = |codes: &mut dyn Iterator<Item = u32>| 3 * codes.filter_map(row_of).count();
+    let block = numbers(&mut (TABLE.0..=TABLE.1));
+    facts.state("the block's table has 768 numbers", block == 768);
+    let both = numbers(&mut table_codes().into_iter());
+    facts.state("that of the letters outside has 303", both == 768 + 303);
     let of_three = clusters()
         .into_iter()
         .filter(|&code| simple_letters(code).len() == 3);
-    facts.state("30 clusters have three letters", of_three.eq(OF_THREE));
+    facts.state("66 clusters have three letters", of_three.eq(OF_THREE));
 }
 
 /// Initial, peak or final; None for all that is no letter.
 fn place_of(code: u32) -> Option<&'static str> {
     match sort_of(code) {
-        Sort::ModernInitial | Sort::OldInitial => Some("initial"),
-        Sort::ModernPeak | Sort::OldPeak => Some("peak"),
-        Sort::ModernFinal | Sort::OldFinal => Some("final"),
+        Sort::ModernInitial(_) | Sort::OldInitial(_) => Some("initial"),
+        Sort::ModernPeak(_) | Sort::OldPeak(_) => Some("peak"),
+        Sort::ModernFinal(_) | Sort::OldFinal(_) => Some("final"),
         _ => None,
     }
 }
 
-/// The rule of the table, and that a row is its code's letters or the code itself, zeros after.
-fn rule_of_the_table(facts: &mut Facts) {
+/// The rule of both tables together, and that a row is its code's letters or the code itself, zeros
+/// after.
+fn rule_of_the_tables(facts: &mut Facts) {
     let one_place = clusters().into_iter().all(|code| {
         let mut letters = simple_letters(code).into_iter();
         place_of(code).is_some() && letters.all(|letter| place_of(letter) == place_of(code))
     });
     facts.state("a cluster's letters are of its place", one_place);
-    let alone = (TABLE_FIRST..=TABLE_LAST)
+    let alone = table_codes()
+        .into_iter()
         .flat_map(simple_letters)
-        .all(|letter| simple_letters(letter) == [letter]);
-    facts.state("each letter's own row is that letter alone", alone);
-    let distinct: HashSet<[u32; 3]> = rows().into_iter().collect();
-    facts.state("no two rows are equal", distinct.len() == 256);
-    let whole = (TABLE_FIRST..)
-        .zip(rows())
-        .filter(|&(code, row)| row == [code, 0, 0]);
-    facts.state("69 rows are their code alone", whole.count() == 256 - 187);
-    let zeros_after = rows()
+        .all(|letter| simple_letters(letter) == [letter] && letter <= TABLE.1);
+    facts.state(
+        "each letter's own row is that letter alone, in the block",
+        alone,
+    );
+    let rows: Vec<[u32; 3]> = table_codes().into_iter().filter_map(row_of).collect();
+    let distinct: HashSet<[u32; 3]> = rows.iter().copied().collect();
+    facts.state(
+        "no two rows are equal, in both tables",
+        distinct.len() == 357,
+    );
+    let whole = table_codes()
+        .into_iter()
+        .filter(|&code| row_of(code) == Some([code, 0, 0]));
+    facts.state("53 rows are their code alone", whole.count() == 357 - 304);
+    let zeros_after = rows
         .iter()
         .all(|row| row[0] != 0 && (row[1] != 0 || row[2] == 0));
     facts.state("zeros stand after letters", zeros_after);
 }
 
 /// The other way to the table: the appendix, with the rules' corrections, the cluster that it
-/// lacks, and no names.
+/// lacks, and no names. It is older than the letters that Unicode 5.2 added.
 fn table_as_printed(facts: &mut Facts) {
     let printed = appendix::numbers(appendix::PRINTED);
     facts.state("188 rows are printed", printed.len() == 188);
@@ -145,11 +181,14 @@ fn table_as_printed(facts: &mut Facts) {
         let printed = letters.insert(row[0], row[1..].to_vec());
         facts.state(&format!("{:04X} is not printed", row[0]), printed.is_none());
     }
-    let same = (TABLE_FIRST..=TABLE_LAST).all(|code| {
+    let mut codes = (TABLE.0..=TABLE.1).filter(|&code| !is_added(code));
+    let same = codes.all(|code| {
         let printed = letters.get(&code).cloned();
         printed.unwrap_or_else(|| vec![code]) == simple_letters(code)
     });
     facts.state("corrected, the printed table is that of the names", same);
+    let none_added = letters.keys().all(|&code| !is_added(code));
+    facts.state("no letter that 5.2 added is printed", none_added);
 }
 
 fn known_rows(facts: &mut Facts) {
@@ -186,15 +225,67 @@ fn known_rows(facts: &mut Facts) {
         let fact = format!("{code:04X} is {letters:04X?}");
         facts.state(&fact, simple_letters(code) == letters);
     }
-    let no_letters = (0x115A..=0x1160).chain(0x11A3..=0x11A7);
-    let mut no_letters = no_letters.chain(0x11FA..=0x11FF);
+}
+
+/// The ends of the ranges that Unicode 5.2 added, and every way of spelling in them.
+fn known_rows_of_added_letters(facts: &mut Facts) {
+    let known: [(u32, &[u32]); 27] = [
+        (0x115A, &[0x1100, 0x1103]),
+        (0x115E, &[0x1103, 0x1105]),
+        (0x11A3, &[0x1161, 0x1173]),
+        (0x11A6, &[0x1169, 0x1163]),
+        (0x11A7, &[0x1169, 0x1163, 0x1175]),
+        (0x11FA, &[0x11A8, 0x11AB]),
+        (0x11FF, &[0x11AB, 0x11AB]),
+        (0xA960, &[0x1103, 0x1106]),
+        (0xA964, &[0x1105, 0x1100]),
+        (0xA965, &[0x1105, 0x1100, 0x1100]),
+        (0xA96B, &[0x1105, 0x1107, 0x110B]),
+        (0xA975, &[0x1109, 0x1109, 0x1107]),
+        (0xA976, &[0x110B, 0x1105]),
+        (0xA97C, &[0x1159, 0x1159]),
+        (0xD7B0, &[0x1169, 0x1167]),
+        (0xD7B1, &[0x1169, 0x1169, 0x1175]),
+        (0xD7B3, &[0x116D, 0x1161, 0x1175]),
+        (0xD7B6, &[0x116E, 0x1175, 0x1175]),
+        (0xD7C0, &[0x1175, 0x1167, 0x1175]),
+        (0xD7C5, &[0x119E, 0x1161]),
+        (0xD7C6, &[0x119E, 0x1165, 0x1175]),
+        (0xD7CB, &[0x11AB, 0x11AF]),
+        (0xD7DB, &[0x11AF, 0x11F0]),
+        (0xD7DC, &[0x11AF, 0x11F9, 0x11C2]),
+        (0xD7DD, &[0x11AF, 0x11BC]),
+        (0xD7F4, &[0x11EB, 0x11B8, 0x11BC]),
+        (0xD7FB, &[0x11C1, 0x11C0]),
+    ];
+    for (code, letters) in known {
+        let fact = format!("{code:04X} is {letters:04X?}");
+        facts.state(&fact, simple_letters(code) == letters);
+    }
+}
+
+/// The letters that are alone in their rows, by the letters' names, and the fillers.
+fn rows_that_stay(facts: &mut Facts) {
     facts.state(
-        "what has no place stays whole",
-        no_letters.all(|code| !is_cluster(code)),
+        "the fillers stay whole",
+        [0x115F, 0x1160].into_iter().all(|code| !is_cluster(code)),
     );
-    let old = (TABLE_FIRST..=TABLE_LAST).filter(|&code| {
-        let old = [Sort::OldInitial, Sort::OldPeak, Sort::OldFinal];
-        old.contains(&sort_of(code)) && !is_cluster(code)
+    let lists: [(&str, &[u32]); 3] = [
+        ("initial", &SIMPLE_INITIALS),
+        ("peak", &SIMPLE_PEAKS),
+        ("final", &SIMPLE_FINALS),
+    ];
+    for (place, list) in lists {
+        let simple = table_codes()
+            .into_iter()
+            .filter(|&code| place_of(code) == Some(place) && !is_cluster(code));
+        let fact = format!("{} letters are a simple {place}", list.len());
+        facts.state(&fact, simple.eq(list.iter().copied()));
+    }
+    let old = table_codes().into_iter().filter(|&code| {
+        let modern = [0x1100..=0x1112, 0x1161..=0x1175, 0x11A8..=0x11C2];
+        let modern = modern.iter().any(|range| range.contains(&code));
+        place_of(code).is_some() && !modern && !is_cluster(code)
     });
     let simple = [
         0x113C, 0x113E, 0x1140, 0x114C, 0x114E, 0x1150, 0x1154, 0x1155, 0x1159, 0x119E, 0x11EB,
@@ -205,7 +296,7 @@ fn known_rows(facts: &mut Facts) {
 
 /// Marked case 1, 002's own examples, and words that any reader knows.
 fn known_forms(facts: &mut Facts) {
-    let known: [(&[u32], &[u32]); 14] = [
+    let known: [(&[u32], &[u32]); 18] = [
         (&[0xAC03], &[0x1100, 0x1161, 0x11A8, 0x11BA]),
         (&[0x1169, 0x1162], &[0x1169, 0x1161, 0x1175]),
         (&[0x116A, 0x1175], &[0x1169, 0x1161, 0x1175]),
@@ -215,7 +306,14 @@ fn known_forms(facts: &mut Facts) {
         (&[0xB2ED], &[0x1103, 0x1161, 0x11AF, 0x11A8]),
         (&[0xAC0C], &[0x1100, 0x1161, 0x11AF, 0x11BA]),
         (&[0xAE4C], &[0x1100, 0x1100, 0x1161]),
-        (&[0xAC00, 0x11A7, 0x0000], &[0x1100, 0x1161, 0x11A7, 0]),
+        (
+            &[0xAC00, 0x11A7, 0x0000],
+            &[0x1100, 0x1161, 0x1169, 0x1163, 0x1175, 0],
+        ),
+        (&[0xA960, 0x1161], &[0x1103, 0x1106, 0x1161]),
+        (&[0x115A], &[0x1100, 0x1103]),
+        (&[0xAC00, 0xD7FB], &[0x1100, 0x1161, 0x11C1, 0x11C0]),
+        (&[0xA95F, 0xA97D, 0xD7CA], &[0xA95F, 0xA97D, 0xD7CA]),
         (&[0x115F, 0x1160, 0x11C3], &[0x115F, 0x1160, 0x11A8, 0x11AF]),
         (&[0x113C, 0x119D, 0x11F0], &[0x113C, 0x1175, 0x119E, 0x11F0]),
         (&[0x3164, 0x115F, 0x3133], &[0x3164, 0x115F, 0x3133]),
@@ -257,7 +355,9 @@ fn forms_over_all_syllables(facts: &mut Facts) {
 }
 
 fn forms_of_other_code_points(facts: &mut Facts) {
-    let mut others = (0..0x1100).chain(0x1200..0xAC00).chain(0xD7A4..=0x10_FFFF);
+    let low = (0..0x1100).chain(0x1200..0xA960).chain(0xA97D..0xAC00);
+    let high = (0xD7A4..0xD7B0).chain(0xD7C7..0xD7CB);
+    let mut others = low.chain(high).chain(0xD7FC..=0x10_FFFF);
     facts.state(
         "what is no letter and no syllable is itself",
         others.all(|code| simple_form(&[code]) == [code]),

@@ -1,17 +1,18 @@
 // Mean code points, texts and rooms, from which the cases of every kind that takes text are made.
 // It makes no whole calls and decides no answers.
 
-use crate::letters::{is_bad, LIMIT};
+use crate::letters::{is_bad, ADDED_RANGES, LIMIT};
 use crate::random::Random;
+use crate::simple::{EXTENDED, TABLE};
 use crate::wire::{MOST_ELEMENTS, MOST_ROOM};
 
 /// First and last code of each range in the rules, and of the blocks that look like them:
-/// tone marks, compatibility letters, the later old letters and the half-width letters.
-const RANGE_ENDS: [u32; 44] = [
+/// tone marks, compatibility letters and the half-width letters.
+const RANGE_ENDS: [u32; 46] = [
     0x0000, 0x0030, 0x0039, 0x0041, 0x007F, 0x0080, 0x07FF, 0x0800, 0x1100, 0x1112, 0x1113, 0x1159,
     0x115A, 0x115E, 0x115F, 0x1160, 0x1161, 0x1175, 0x1176, 0x11A2, 0x11A3, 0x11A7, 0x11A8, 0x11C2,
     0x11C3, 0x11F9, 0x11FA, 0x11FF, 0x302E, 0x302F, 0x3131, 0x314E, 0x314F, 0x3163, 0x3164, 0xA960,
-    0xA97C, 0xAC00, 0xD7A3, 0xD7B0, 0xD7FB, 0xFFA0, 0xFFFD, 0xFFFF,
+    0xA97C, 0xAC00, 0xD7A3, 0xD7B0, 0xD7C6, 0xD7CB, 0xD7FB, 0xFFA0, 0xFFFD, 0xFFFF,
 ];
 
 /// Where the scalar values begin and end, and numbers with the top bits set.
@@ -39,7 +40,7 @@ const LOOK_ALIKES: [u32; 6] = [
 ];
 
 /// Ranges from which the good code points of texts are drawn; Hangul stands in most of them.
-const GOOD_RANGES: [(u32, u32); 16] = [
+const GOOD_RANGES: [(u32, u32); 18] = [
     (0x1100, 0x1112),
     (0x1113, 0x1159),
     (0x115A, 0x1160),
@@ -54,6 +55,8 @@ const GOOD_RANGES: [(u32, u32); 16] = [
     (0x3131, 0x3164),
     (0x302E, 0x302F),
     (0xA960, 0xA97F),
+    (0xD7B0, 0xD7CA),
+    (0xD7CB, 0xD7FF),
     (0xE000, 0xFFFF),
     (0x10000, 0x10FFFF),
 ];
@@ -164,7 +167,7 @@ pub fn any_code(random: &mut Random) -> u32 {
             .wrapping_sub(2),
         2 => bad_code(random),
         3 => random.between(0xAC00, 0xD7A3),
-        4 => random.between(0x1100, 0x11FF),
+        4 => letter(random),
         5 => random.between(0, 0x10_FFFF),
         _ => good_code(random),
     }
@@ -182,8 +185,13 @@ fn good_boundary(random: &mut Random) -> u32 {
     }
 }
 
+/// A code of the letters' block, or in one of four a letter of the later blocks.
 fn letter(random: &mut Random) -> u32 {
-    random.between(0x1100, 0x11FF)
+    let (first, last) = match random.one_in(4) {
+        true => random.pick(&EXTENDED),
+        false => TABLE,
+    };
+    random.between(first, last)
 }
 
 fn syllable(random: &mut Random) -> u32 {
@@ -218,7 +226,8 @@ pub fn good_text(random: &mut Random, length: usize) -> Vec<u32> {
             4 => spelled(random, index),
             5 => good_boundary(random),
             6 => random.pick(&[
-                0xAC00, 0xAC01, 0xD788, 0xD7A3, 0x1100, 0x1161, 0x11A8, 0x11A7,
+                0xAC00, 0xAC01, 0xD788, 0xD7A3, 0x1100, 0x1161, 0x11A8, 0x11A7, 0xA960, 0xD7B0,
+                0xD7CB,
             ]),
             _ => good_code(random),
         });
@@ -226,9 +235,11 @@ pub fn good_text(random: &mut Random, length: usize) -> Vec<u32> {
     text
 }
 
-/// What parts letters that would join as neighbours: marks, joiners, spaces, fillers and 11A7.
-const PARTING: [u32; 12] = [
-    0x302E, 0x302F, 0x0300, 0x200B, 0x200D, 0x0020, 0x115F, 0x1160, 0x11A7, 0x3164, 0xFE0F, 0xFFFD,
+/// What parts letters that would join as neighbours: marks, joiners, spaces, fillers, and old
+/// letters, 11A7 among them.
+const PARTING: [u32; 16] = [
+    0x302E, 0x302F, 0x0300, 0x200B, 0x200D, 0x0020, 0x115F, 0x1160, 0x11A7, 0x115A, 0xA960, 0xD7B0,
+    0xD7CB, 0x3164, 0xFE0F, 0xFFFD,
 ];
 
 /// The letters of one syllable, half of the time without a final.
@@ -253,9 +264,11 @@ fn nearly_joining(random: &mut Random) -> Vec<u32> {
         random.between(0x1100, 0x1112),
         random.between(0x1161, 0x1175),
     );
-    let no_initial = random.pick(&[0x10FF, 0x1113, 0x1159, 0x115F, 0xA960]);
-    let no_peak = random.pick(&[0x1160, 0x1176, 0x11A2, 0x11A7, 0xD7B0]);
-    let no_final = random.pick(&[0x11A7, 0x11C3, 0x11F9, 0x11A6, 0xD7CB]);
+    let added = random.pick(&ADDED_RANGES);
+    let added = random.between(added.0, added.1);
+    let no_initial = random.pick(&[0x10FF, 0x1113, 0x1159, 0x115F, 0xA960, added]);
+    let no_peak = random.pick(&[0x1160, 0x1176, 0x11A2, 0x11A7, 0xD7B0, added]);
+    let no_final = random.pick(&[0x11A7, 0x11C3, 0x11F9, 0x11A6, 0xD7CB, added]);
     match random.below(4) {
         0 => vec![no_initial, peak],
         1 => vec![initial, no_peak],

@@ -1,5 +1,6 @@
 // The answers of the calls as four numbers. Those on the label file are in `labelled`.
 use encodings::Read;
+use letters::Make;
 use letters::Parts;
 use letters::Sort;
 use letters::Sorted;
@@ -8,20 +9,28 @@ use names::Named;
 use ranking::Ranked;
 use wire::Reply;
 
-// The sorts as numbers, in the order of document 01.
+// The one number for a simple letter, and the other for a cluster.
+fn by_make(make: Make, simple: u32, cluster: u32) -> u32 {
+    match make {
+        Make::Simple => simple,
+        Make::Cluster => cluster,
+    }
+}
+
+// The sorts as numbers, in the order of document 01, a simple letter before a cluster.
 fn number_of(sort: Sort) -> u32 {
     match sort {
-        Sort::ModernInitial => 0,
-        Sort::OldInitial => 1,
-        Sort::InitialFiller => 2,
-        Sort::PeakFiller => 3,
-        Sort::ModernPeak => 4,
-        Sort::OldPeak => 5,
-        Sort::ModernFinal => 6,
-        Sort::OldFinal => 7,
-        Sort::Lv => 8,
-        Sort::Lvt => 9,
-        Sort::Other => 10,
+        Sort::ModernInitial(make) => by_make(make, 0, 1),
+        Sort::OldInitial(make) => by_make(make, 2, 3),
+        Sort::InitialFiller => 4,
+        Sort::PeakFiller => 5,
+        Sort::ModernPeak(make) => by_make(make, 6, 7),
+        Sort::OldPeak(make) => by_make(make, 8, 9),
+        Sort::ModernFinal(make) => by_make(make, 10, 11),
+        Sort::OldFinal(make) => by_make(make, 12, 13),
+        Sort::Lv => 14,
+        Sort::Lvt => 15,
+        Sort::Other => 16,
     }
 }
 

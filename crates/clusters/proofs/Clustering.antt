@@ -2,93 +2,102 @@
 -- the spans in which a cluster is looked for (`spans-of`); the cluster of two letters, and of
 -- three, is the code that has these letters, and there is no other (`two-listed`, `listed-two`,
 -- `three-listed`, `listed-three`), and none has the code 0; what is nowhere, and what is 0, is in
--- no cluster; the spans in which a cluster is looked for; the search.
+-- no cluster, and plain text begins none; which span covers the clusters that begin with some
+-- letters (`covers-when`, `covers-more`, `covers-none`); the search, in a range of codes and in
+-- both parts of a span (`found-first`, `found-second`).
 use mathlib.Core.Path.{_≡_, refl, sym, _∙_, ap}
 use mathlib.Core.Bool.{Bool, true, false, _&&_, _||_, true≢false}
+use mathlib.Core.Logic.{inl, inr, ⊎-elim}
 use mathlib.Core.Option.{Option, none, some, Option·none-ne-some, Option·some-injective}
-use mathlib.Core.List.{List, [], _∷_, _++_}
+use mathlib.Core.List.{List, [], _∷_, _++_, append-assoc}
 use Prim.Native.Nat.{ℕ, _+_, _≤_, _<_}
 use native.Mathlib.Omega.{arith}
-use lib.Dec.{T, eqb, eqb-refl}
+use lib.Dec.{T, eqb, eqb-refl, leb, ltb}
 use lib.ListN.{length, take}
-use borrow.Author.Tests.{eqb-true, eqb-false}
+use borrow.Author.Tests.{eqb-true, eqb-false, leb-true, ltb-true}
 use Rattle.laws.specs.Lists.{All, also}
-use Rattle.laws.specs.Ranges.{within}
-use Rattle.laws.proofs.Bools.{test, T-true, and-left, and-right}
-use Rattle.laws.proofs.Lists.{all-map}
-use Rattle.laws.proofs.Ranges.{within-least, within-most}
+use Rattle.laws.proofs.Bools.{test, T-true, true-T, and-left, and-right}
+use Rattle.laws.proofs.Lists.{all-head, all-tail, all-map}
 use Rattle.laws.proofs.Strings.{every-all}
 use Rattle.laws.proofs.Tables.{every}
-use Rattle.clusters.specs.Table.{Cluster, two, three, clusters, clusterCode, lettersIn, lettersFrom, lettersOf, nowhere, placeOf}
+use Rattle.clusters.specs.Table.{Cluster, two, three, clusters, clusterCode, lettersIn, lettersFrom, lettersOf, hasRow, nowhere, placeOf}
 use Rattle.clusters.specs.Rows.{asRow, rowBy, lettersBy}
 use Rattle.clusters.specs.Gathering.{twoIn, twoOf, threeIn, threeOf}
-use Rattle.clusters.specs.Inner.{Covers, Spans, Searched, hit, miss, orZero}
+use Rattle.clusters.specs.Inner.{In, Letter, Covers, Searched, hit, miss, SearchedFrom, SearchedIn, orZero}
 use Rattle.clusters.specs.declared.table.Row.{Row}
 use Rattle.clusters.specs.declared.gather.Span.{Span}
-use Rattle.clusters.proofs.Rule.{all-found, letters-placed, letters-distinct, letters-nonzero}
+use Rattle.clusters.proofs.Codes.{row-least}
+use Rattle.clusters.proofs.Rule.{all-found, letters-row, letters-all, letters-placed, letters-distinct, letters-nonzero}
 use Rattle.clusters.proofs.Rows.{by-two, by-three, letters-by}
 
 -- ---- one test over all clusters
 
-abbrev firstIn : Cluster → ℕ
-firstIn (two k a b) = a
-firstIn (three k a b c) = a
+-- the spans of the three places
+abbrev pub initialSpan : Span
+initialSpan = record { low = 0x1100; high = 0x115F; outer = 0xA960; end = 0xA97D }
 
-abbrev secondIn : Cluster → ℕ
-secondIn (two k a b) = b
-secondIn (three k a b c) = b
+abbrev pub peakSpan : Span
+peakSpan = record { low = 0x1161; high = 0x11A8; outer = 0xD7B0; end = 0xD7C7 }
 
--- its code and its first two letters are from lo to hi
-unfoldable allIn : ℕ → ℕ → Cluster → Bool
-allIn lo hi k = within lo hi (clusterCode k) && (within lo hi (firstIn k) && within lo hi (secondIn k))
+abbrev pub finalSpan : Span
+finalSpan = record { low = 0x11A8; high = 0x1200; outer = 0xD7CB; end = 0xD7FC }
+
+-- c is from lo on, before hi
+abbrev from : ℕ → ℕ → ℕ → Bool
+from lo hi c = leb lo c && ltb c hi
+
+-- its code is in the span, and its letters in the part of it that is in 01's table
+unfoldable allIn : Span → Cluster → Bool
+allIn span k =
+    (from (span .low) (span .high) (clusterCode k) || from (span .outer) (span .end) (clusterCode k))
+    && every (λ n l. from (span .low) (span .high) l) 0 (lettersIn k)
 
 -- and so they are in one of the three spans
 unfoldable spanned : Cluster → Bool
-spanned k = allIn 0x1100 0x1159 k || (allIn 0x1161 0x11A2 k || allIn 0x11A8 0x11F9 k)
+spanned k = allIn initialSpan k || (allIn peakSpan k || allIn finalSpan k)
 
 all-spanned : T (every (λ n k. spanned k) 0 clusters)
-unfolding spanned allIn clusters within
+unfolding spanned allIn clusters
 all-spanned = tt
 
 -- ---- what it says
 
--- a code and two letters, all from lo to hi
-record Inside (lo hi k a b : ℕ) : Type 0 where
-  code-least : lo ≤ k
-  code-most : k ≤ hi
-  first-least : lo ≤ a
-  first-most : a ≤ hi
-  second-least : lo ≤ b
-  second-most : b ≤ hi
+-- a code of the span, and letters in the part of it that is in 01's table
+record Inside (span : Span) (k : ℕ) (letters : List ℕ) : Type 0 where
+  code : In span k
+  all : All (Letter span) letters
 
-data Spanned (k a b : ℕ) : Type 0 where
-  initials : Inside 0x1100 0x1159 k a b → Spanned k a b
-  peaks : Inside 0x1161 0x11A2 k a b → Spanned k a b
-  finals : Inside 0x11A8 0x11F9 k a b → Spanned k a b
+data Spanned (k : ℕ) (letters : List ℕ) : Type 0 where
+  initials : Inside initialSpan k letters → Spanned k letters
+  peaks : Inside peakSpan k letters → Spanned k letters
+  finals : Inside finalSpan k letters → Spanned k letters
 
-all-inside : (lo hi : ℕ) (k : Cluster) → allIn lo hi k ≡ true → Inside lo hi (clusterCode k) (firstIn k) (secondIn k)
+from-both : (lo hi c : ℕ) → from lo hi c ≡ true → (lo ≤ c) × (c < hi)
+from-both lo hi c e = (leb-true lo c (and-left (leb lo c) (ltb c hi) e), ltb-true c hi (and-right (leb lo c) (ltb c hi) e))
+
+from-either : (span : Span) (k : ℕ) → from (span .low) (span .high) k || from (span .outer) (span .end) k ≡ true → In span k
+from-either span k e =
+    test (from (span .low) (span .high) k) (λ q. inl (from-both (span .low) (span .high) k q))
+    (λ n. inr (from-both (span .outer) (span .end) k (simp n at e)))
+
+all-inside : (span : Span) (k : Cluster) → allIn span k ≡ true → Inside span (clusterCode k) (lettersIn k)
 unfolding allIn
-all-inside lo hi k e =
-    let p = and-left (within lo hi (clusterCode k)) _ e in
-    let r = and-right (within lo hi (clusterCode k)) _ e in
-    let q = and-left (within lo hi (firstIn k)) _ r in
-    let s = and-right (within lo hi (firstIn k)) (within lo hi (secondIn k)) r in
+all-inside span k e =
+    let code = from (span .low) (span .high) (clusterCode k) || from (span .outer) (span .end) (clusterCode k) in
     record {
-      code-least = within-least lo hi (clusterCode k) p;
-      code-most = within-most lo hi (clusterCode k) p;
-      first-least = within-least lo hi (firstIn k) q;
-      first-most = within-most lo hi (firstIn k) q;
-      second-least = within-least lo hi (secondIn k) s;
-      second-most = within-most lo hi (secondIn k) s;
+      code = from-either span (clusterCode k) (and-left code _ e);
+      all =
+          every-all (from (span .low) (span .high)) (λ l t. from-both (span .low) (span .high) l (T-true _ t)) (lettersIn k) 0
+          (true-T _ (and-right code _ e));
     }
 
-spanned-by : (k : Cluster) → T (spanned k) → Spanned (clusterCode k) (firstIn k) (secondIn k)
+spanned-by : (k : Cluster) → T (spanned k) → Spanned (clusterCode k) (lettersIn k)
 unfolding spanned
 spanned-by k t =
-    test (allIn 0x1100 0x1159 k) (λ e. initials (all-inside 0x1100 0x1159 k e))
+    test (allIn initialSpan k) (λ e. initials (all-inside initialSpan k e))
     (λ n.
-    test (allIn 0x1161 0x11A2 k) (λ e. peaks (all-inside 0x1161 0x11A2 k e))
-    (λ m. finals (all-inside 0x11A8 0x11F9 k (T-true _ (rw (n, m) at t)))))
+    test (allIn peakSpan k) (λ e. peaks (all-inside peakSpan k e))
+    (λ m. finals (all-inside finalSpan k (T-true _ (rw (n, m) at t)))))
 
 spanned-at : All (λ k. T (spanned k)) clusters
 spanned-at = every-all spanned (λ k t. t) clusters 0 all-spanned
@@ -103,35 +112,16 @@ module _ (P : ℕ → List ℕ → Type 0) {c a b : ℕ} {x : List ℕ} where
       test (eqb (clusterCode k) c) (λ q. rw (← (eqb-true (clusterCode k) c q), ← (simp q at e)) p) (λ q. listed-in cs ps (simp q at e))
 
 module _ (c : ℕ) {a b : ℕ} {x : List ℕ} (e : lettersOf c ≡ a ∷ b ∷ x) where
-  spans-of : Spanned c a b
+  spans-of : Spanned c (a ∷ b ∷ x)
   unfolding lettersOf
-  spans-of = listed-in (λ k y. First k y) clusters (all-map (λ k t. first k (spanned-by k t)) spanned-at) e
-    where
-      First : ℕ → List ℕ → Type 0
-      First k [] = ⊥
-      First k (l ∷ []) = ⊥
-      First k (l ∷ m ∷ y) = Spanned k l m
+  spans-of = listed-in Spanned clusters (all-map spanned-by spanned-at) e
 
-      first : (k : Cluster) → Spanned (clusterCode k) (firstIn k) (secondIn k) → First (clusterCode k) (lettersIn k)
-      first (two k l m) s = s
-      first (three k l m n) s = s
+  -- it has a row, and is not 0
+  pub listed-row : hasRow c ≡ true
+  listed-row = letters-row c (omega (arith, ap length e))
 
-  -- it is in the table, and not 0
   pub listed-least : 0x1100 ≤ c
-  listed-least = by spans-of
-    where
-      by : Spanned c a b → 0x1100 ≤ c
-      by (initials i) = i .code-least
-      by (peaks i) = omega (arith, i .code-least)
-      by (finals i) = omega (arith, i .code-least)
-
-  pub listed-most : c ≤ 0x11FF
-  listed-most = by spans-of
-    where
-      by : Spanned c a b → c ≤ 0x11FF
-      by (initials i) = omega (arith, i .code-most)
-      by (peaks i) = omega (arith, i .code-most)
-      by (finals i) = omega (arith, i .code-most)
+  listed-least = row-least c listed-row
 
 -- ---- the cluster of two letters, and of three
 
@@ -232,6 +222,9 @@ module _ (c : ℕ) {a b : ℕ} {x : List ℕ} (e : lettersOf c ≡ a ∷ b ∷ x
   pub listed-placed : All (λ l. placeOf l ≡ nowhere → ⊥) (a ∷ b ∷ x)
   listed-placed = rw e at (letters-placed c (omega (arith, ap length e)))
 
+  pub listed-high : 0x1100 ≤ a
+  listed-high = all-head (rw e at (letters-all (λ l. 0x1100 ≤ l) (λ l h k. h) c (listed-least c e)))
+
   pub listed-nonzero : All (λ l. l ≡ 0 → ⊥) (a ∷ b ∷ x)
   listed-nonzero = rw e at (letters-nonzero c (λ z. omega (arith, listed-least c e)))
 
@@ -260,6 +253,13 @@ second-nowhere = no-three-second {P = λ l. placeOf l ≡ nowhere} (λ c a b x e
 
 pub third-nowhere : (a b d : ℕ) → placeOf d ≡ nowhere → threeOf a b d ≡ none
 third-nowhere = no-three-third {P = λ l. placeOf l ≡ nowhere} (λ c a b x e. listed-placed c e)
+
+-- and none begins with plain text
+pub two-low : (a b : ℕ) → a < 0x1100 → twoOf a b ≡ none
+two-low a b h = none-unless (twoOf a b) (λ k e. omega (arith, listed-high k (two-listed a b k e)))
+
+pub three-low : (a b d : ℕ) → a < 0x1100 → threeOf a b d ≡ none
+three-low a b d h = none-unless (threeOf a b d) (λ k e. omega (arith, listed-high k (three-listed a b d k e)))
 
 pub two-zero : (a b : ℕ) → b ≡ 0 → 0 ≡ orZero (twoOf a b)
 two-zero a b z = sym (ap orZero (no-two {P = λ l. l ≡ 0} (λ c a b x e. listed-nonzero c e) a b z))
@@ -297,42 +297,26 @@ module _ (a b d : ℕ) {r : ℕ} (found : r ≡ orZero (threeOf a b d)) where
 -- ---- the spans
 
 -- a span that is right wherever the letter stands covers the clusters that begin with it
-pub covers-when : (a : ℕ) {low high : ℕ} → (0x1100 ≤ a → a ≤ 0x1159 → (low ≡ 0x1100) × (high ≡ 0x115A))
-    → (0x1161 ≤ a → a ≤ 0x11A2 → (low ≡ 0x1161) × (high ≡ 0x11A3)) → (0x11A8 ≤ a → a ≤ 0x11F9 → (low ≡ 0x11A8) × (high ≡ 0x11FA))
-    → Covers a (record { low = low; high = high })
-covers-when a {low} {high} initial peak final = record {
-  low-code = λ k b x e. low-of (spans-of k e) .0;
-  high-code = λ k b x e. high-of (spans-of k e) .0;
-  low-second = λ k b x e. low-of (spans-of k e) .1;
-  high-second = λ k b x e. high-of (spans-of k e) .1;
-}
+pub covers-when : (a : ℕ) (span : Span) → (0x1100 ≤ a → a < 0x115F → span ≡ initialSpan) → (0x1161 ≤ a → a < 0x11A8 → span ≡ peakSpan)
+    → (0x11A8 ≤ a → a < 0x1200 → span ≡ finalSpan) → Covers (a ∷ []) span
+covers-when a span initial peak final k [] e h = absurd (omega (arith, ap length e))
+covers-when a span initial peak final k (b ∷ x) e h = let i = inside (spans-of k e) in (i .code, all-tail (i .all))
   where
-    low-of : {k b : ℕ} → Spanned k a b → (low ≤ k) × (low ≤ b)
-    low-of (initials i) = let e = initial (i .first-least) (i .first-most) .0 in (omega (arith, i .code-least, e), omega (arith, i .second-least, e))
-    low-of (peaks i) = let e = peak (i .first-least) (i .first-most) .0 in (omega (arith, i .code-least, e), omega (arith, i .second-least, e))
-    low-of (finals i) = let e = final (i .first-least) (i .first-most) .0 in (omega (arith, i .code-least, e), omega (arith, i .second-least, e))
+    inside : {k : ℕ} {y : List ℕ} → Spanned k (a ∷ y) → Inside span k (a ∷ y)
+    inside (initials i) = let p = all-head (i .all) in rw (initial (p .0) (p .1)) i
+    inside (peaks i) = let p = all-head (i .all) in rw (peak (p .0) (p .1)) i
+    inside (finals i) = let p = all-head (i .all) in rw (final (p .0) (p .1)) i
 
-    high-of : {k b : ℕ} → Spanned k a b → (k < high) × (b < high)
-    high-of (initials i) = let e = initial (i .first-least) (i .first-most) .1 in (omega (arith, i .code-most, e), omega (arith, i .second-most, e))
-    high-of (peaks i) = let e = peak (i .first-least) (i .first-most) .1 in (omega (arith, i .code-most, e), omega (arith, i .second-most, e))
-    high-of (finals i) = let e = final (i .first-least) (i .first-most) .1 in (omega (arith, i .code-most, e), omega (arith, i .second-most, e))
+-- with one letter more: a letter in the span, or none that a cluster has there
+module _ (front : List ℕ) (l : ℕ) {span : Span} (covers : Covers front span) where
+  onward : (k : ℕ) (rest : List ℕ) → lettersOf k ≡ (front ++ (l ∷ [])) ++ rest → 1 < length (lettersOf k) → In span k × All (Letter span) (l ∷ rest)
+  onward k rest e h = covers k (l ∷ rest) (e ∙ append-assoc front (l ∷ []) rest) h
 
--- of two letters: there is no such cluster, or the span covers it
-module _ (a b : ℕ) {span : Span} (covers : Covers a span) where
-  pub spans-below : b < span .low → Spans a b (record { low = 0; high = 0 })
-  spans-below h = record {
-    low-code = λ k x e. omega (arith, covers .low-second k b x e);
-    high-code = λ k x e. absurd (omega (arith, covers .low-second k b x e));
-  }
+  pub covers-more : Covers (front ++ (l ∷ [])) span
+  covers-more k rest e h = let o = onward k rest e h in (o .0, all-tail (o .1))
 
-  pub spans-above : span .high ≤ b → Spans a b (record { low = 0; high = 0 })
-  spans-above h = record {
-    low-code = λ k x e. omega (arith, covers .high-second k b x e);
-    high-code = λ k x e. absurd (omega (arith, covers .high-second k b x e));
-  }
-
-  pub spans-inside : Spans a b span
-  spans-inside = record { low-code = λ k x e. covers .low-code k b x e; high-code = λ k x e. covers .high-code k b x e }
+  pub covers-none : (any : Span) → (Letter span l → ⊥) → Covers (front ++ (l ∷ [])) any
+  covers-none any n k rest e h = absurd (n (all-head (onward k rest e h .1)))
 
 -- ---- the search
 
@@ -372,37 +356,49 @@ module _ (row : Row) (low c : ℕ) where
         test (eqb k c) (λ e q. true≢false (sym (row-itself row) ∙ ap (λ (x : Row). sameRow x row) (sym (is ∙ ap rowBy (sym (eqb-true k c e)) ∙ q)) ∙ sym compared ∙ n))
         (λ e. m k l (let d = eqb-false k c e in omega arith))
 
-    pub searched-hit : (high : ℕ) → answer ≡ true → Searched row low high c
+    pub searched-hit : (high : ℕ) → answer ≡ true → SearchedFrom row low high c
     searched-hit high t = hit (sym is ∙ same-row read row (sym compared ∙ t))
 
-  pub searched-miss : (high : ℕ) → high ≤ c → Missed row low c → Searched row low high 0
-  searched-miss high h m = miss refl (λ k l g. m k l (omega arith))
+  pub searched-miss : (high : ℕ) → high ≤ c → Missed row low c → SearchedFrom row low high 0
+  searched-miss high h m = miss refl (λ k i. m k (i .0) (omega (arith, i .1)))
+
+-- the two parts of a span: found in the first, or whatever is found in the second
+module _ {row : Row} {span : Span} {r : ℕ} where
+  pub found-first : (r ≡ 0 → ⊥) → SearchedFrom row (span .low) (span .high) r → SearchedIn row span r
+  found-first n (hit e) = hit e
+  found-first n (miss z m) = absurd (n z)
+
+  pub found-second : {q : ℕ} → q ≡ 0 → SearchedFrom row (span .low) (span .high) q → SearchedFrom row (span .outer) (span .end) r
+      → SearchedIn row span r
+  found-second z s (hit e) = hit e
+  found-second z (hit e) (miss w m) = hit (rw (w ∙ sym z) e)
+  found-second z (miss y n) (miss w m) = miss w (λ k i. ⊎-elim (n k) (m k) i)
 
 -- a code with two letters or more has their row, and one that has their row has them
 module _ {a b : ℕ} {x : List ℕ} {row : Row} (by : lettersBy row ≡ a ∷ b ∷ x) (padded : asRow (take 3 ((a ∷ b ∷ x) ++ (0 ∷ 0 ∷ []))) ≡ row) where
   row-letters : (c : ℕ) → rowBy c ≡ row → lettersOf c ≡ a ∷ b ∷ x
   row-letters c e = sym (letters-by c) ∙ ap lettersBy e ∙ by
 
-  letters-row : (c : ℕ) → lettersOf c ≡ a ∷ b ∷ x → rowBy c ≡ row
+  row-listed : (c : ℕ) → lettersOf c ≡ a ∷ b ∷ x → rowBy c ≡ row
   unfolding rowBy
-  letters-row c e = ap (λ (l : List ℕ). asRow (take 3 (l ++ (0 ∷ 0 ∷ [])))) e ∙ padded
+  row-listed c e = ap (λ (l : List ℕ). asRow (take 3 (l ++ (0 ∷ 0 ∷ [])))) e ∙ padded
 
 -- THE SEARCH FINDS THE CLUSTER of two letters, and of three
-module _ {a b r : ℕ} {span : Span} (spans : Spans a b span) (second : b ≡ 0 → ⊥) where
-  pub two-found : Searched (record { first = a; second = b; third = 0 }) (span .low) (span .high) r → r ≡ orZero (twoOf a b)
-  two-found (hit e) = sym (ap orZero (listed-two a b r (row-letters (by-two _ second refl) refl r e)))
-  two-found (miss z m) = z ∙ sym (ap orZero (none-unless (twoOf a b) none-there))
+module _ {a b r : ℕ} (second : b ≡ 0 → ⊥) where
+  pub two-found : {span : Span} → Covers (a ∷ b ∷ []) span → SearchedIn (record { first = a; second = b; third = 0 }) span r → r ≡ orZero (twoOf a b)
+  two-found covers (hit e) = sym (ap orZero (listed-two a b r (row-letters (by-two _ second refl) refl r e)))
+  two-found covers (miss z m) = z ∙ sym (ap orZero (none-unless (twoOf a b) none-there))
     where
       none-there : (k : ℕ) → twoOf a b ≡ some k → ⊥
       none-there k e =
           let l = two-listed a b k e in
-          m k (spans .low-code k _ l) (spans .high-code k _ l) (letters-row (by-two _ second refl) refl k l)
+          m k (covers k [] l (omega (arith, ap length l)) .0) (row-listed (by-two _ second refl) refl k l)
 
-  pub three-found : {d : ℕ} → (d ≡ 0 → ⊥) → Searched (record { first = a; second = b; third = d }) (span .low) (span .high) r → r ≡ orZero (threeOf a b d)
-  three-found {d} third (hit e) = sym (ap orZero (listed-three a b d r (row-letters (by-three _ second third) refl r e)))
-  three-found {d} third (miss z m) = z ∙ sym (ap orZero (none-unless (threeOf a b d) none-there))
+  pub three-found : {d : ℕ} {span : Span} → (d ≡ 0 → ⊥) → Covers (a ∷ b ∷ d ∷ []) span → SearchedIn (record { first = a; second = b; third = d }) span r → r ≡ orZero (threeOf a b d)
+  three-found {d} third covers (hit e) = sym (ap orZero (listed-three a b d r (row-letters (by-three _ second third) refl r e)))
+  three-found {d} third covers (miss z m) = z ∙ sym (ap orZero (none-unless (threeOf a b d) none-there))
     where
       none-there : (k : ℕ) → threeOf a b d ≡ some k → ⊥
       none-there k e =
           let l = three-listed a b d k e in
-          m k (spans .low-code k _ l) (spans .high-code k _ l) (letters-row (by-three _ second third) refl k l)
+          m k (covers k [] l (omega (arith, ap length l)) .0) (row-listed (by-three _ second third) refl k l)

@@ -15,7 +15,7 @@ use Rattle.laws.specs.Machines.{from, Splits}
 use Rattle.laws.specs.Ranges.{within}
 use Rattle.laws.proofs.Lists.{each-one, each-alone}
 use Rattle.laws.proofs.Machines.{from-chained, from-fed}
-use Rattle.letters.specs.Sorts.{sortOf}
+use Rattle.letters.specs.Sorts.{classOf, makeOf, sortOf}
 use Rattle.letters.specs.Syllables.{isSyllable, oneStep, partsTo}
 use Rattle.letters.proofs.Steps.{step-other, syllable-below}
 use Rattle.letters.proofs.FullParts.{Closed}
@@ -29,9 +29,10 @@ use Rattle.clusters.specs.Gathering.{twoOf, threeOf, longest, clustered,
 use Rattle.clusters.specs.Inner.{undecided, gatherer, gathering, coded}
 use Rattle.clusters.specs.declared.gather.Pending.{Pending}
 use Rattle.clusters.specs.declared.gather.Pending.the-variants.{Nothing, One, Two}
+use Rattle.clusters.proofs.Codes.{row-beside}
 use Rattle.clusters.proofs.Rule.{letters-alone, letters-all}
 use Rattle.clusters.proofs.SimpleForm.{simple-itself, simple-each, simple-append, simple-most, simple-simple, simple-of-joined, closed-parts}
-use Rattle.clusters.proofs.Clustering.{listed-most, two-listed, three-listed, two-nowhere, second-nowhere, third-nowhere}
+use Rattle.clusters.proofs.Clustering.{listed-row, two-listed, three-listed, two-nowhere, second-nowhere, third-nowhere}
 
 -- ---- the groups: a letter that stays, two that are a cluster, or three
 
@@ -82,7 +83,7 @@ low-closed c h = step-other c (syllable-below c (omega arith))
 -- of a cluster its letters, and of these too
 module _ (k : ℕ) {a b : ℕ} {x : List ℕ} (e : lettersOf k ≡ a ∷ b ∷ x) where
   closed-cluster : Closed k
-  closed-cluster = low-closed k (listed-most k e)
+  closed-cluster = step-other k (row-beside k (listed-row k e))
 
   simple-cluster : simple (k ∷ []) ≡ a ∷ b ∷ x
   simple-cluster = simple-each (k ∷ []) ∙ each-one simpleOf k ∙ simple-itself k closed-cluster ∙ e
@@ -204,23 +205,38 @@ unfolding clustered twoOf threeOf clusters
 after-cluster = refl
 
 pub case-seven : gathered (0x1100 ∷ 0x1100 ∷ 0x1161 ∷ []) ≡ 0xAE4C ∷ []
-unfolding gathered simple partsTo oneStep isSyllable each lettersOf clustered twoOf threeOf clusters pair opens roleOf sortOf within
+unfolding gathered simple partsTo oneStep isSyllable each lettersOf clustered twoOf threeOf clusters pair opens roleOf sortOf classOf makeOf within
 case-seven = refl
 
 pub case-eight : gathered (0x1100 ∷ 0x1161 ∷ 0x1175 ∷ []) ≡ 0xAC1C ∷ []
-unfolding gathered simple partsTo oneStep isSyllable each lettersOf clustered twoOf threeOf clusters pair opens roleOf sortOf within
+unfolding gathered simple partsTo oneStep isSyllable each lettersOf clustered twoOf threeOf clusters pair opens roleOf sortOf classOf makeOf within
 case-eight = refl
 
 pub case-longer : gathered (0x1107 ∷ 0xAC01 ∷ []) ≡ 0x111E ∷ 0x1161 ∷ 0x11A8 ∷ []
-unfolding gathered simple partsTo oneStep isSyllable each lettersOf clustered twoOf threeOf clusters pair opens roleOf sortOf within
+unfolding gathered simple partsTo oneStep isSyllable each lettersOf clustered twoOf threeOf clusters pair opens roleOf sortOf classOf makeOf within
 case-longer = refl
 
 -- ---- cases of document 02, #102: an old peak and an old final; twice as long as the text given
 
 pub case-old : gathered (0x1100 ∷ 0x1175 ∷ 0x119E ∷ 0x11AF ∷ 0x11AE ∷ 0x11C2 ∷ []) ≡ 0x1100 ∷ 0x119D ∷ 0x11CF ∷ []
-unfolding gathered simple partsTo oneStep isSyllable each lettersOf clustered twoOf threeOf clusters pair opens roleOf sortOf within
+unfolding gathered simple partsTo oneStep isSyllable each lettersOf clustered twoOf threeOf clusters pair opens roleOf sortOf classOf makeOf within
 case-old = refl
 
 pub case-twice : gathered (0xD07D ∷ 0x11CF ∷ []) ≡ 0xD06C ∷ 0x11E3 ∷ 0x11AE ∷ 0x11C2 ∷ []
-unfolding gathered simple partsTo oneStep isSyllable each lettersOf clustered twoOf threeOf clusters pair opens roleOf sortOf within
+unfolding gathered simple partsTo oneStep isSyllable each lettersOf clustered twoOf threeOf clusters pair opens roleOf sortOf classOf makeOf within
 case-twice = refl
+
+-- ---- cases of document 02, #106: initials of the extended block, three letters before two, and a
+-- letter before a peak that it has no row with; a letter in 01's table
+
+pub case-extended : gathered (0x1103 ∷ 0x1106 ∷ 0x1161 ∷ []) ≡ 0xA960 ∷ 0x1161 ∷ []
+unfolding gathered simple partsTo oneStep isSyllable each lettersOf clustered twoOf threeOf clusters pair opens roleOf sortOf classOf makeOf within
+case-extended = refl
+
+pub case-extended-three : gathered (0x1105 ∷ 0x1100 ∷ 0x1100 ∷ 0x1105 ∷ 0x1100 ∷ []) ≡ 0xA965 ∷ 0xA964 ∷ []
+unfolding gathered simple partsTo oneStep isSyllable each lettersOf clustered twoOf threeOf clusters pair opens roleOf sortOf classOf makeOf within
+case-extended-three = refl
+
+pub case-extended-simple : simple (0xA960 ∷ 0x1161 ∷ 0x115A ∷ []) ≡ 0x1103 ∷ 0x1106 ∷ 0x1161 ∷ 0x1100 ∷ 0x1103 ∷ []
+unfolding simple partsTo oneStep isSyllable each lettersOf clusters within
+case-extended-simple = refl

@@ -3,7 +3,7 @@
 use mathlib.Core.Path.{_≡_, refl}
 use mathlib.Core.Bool.{false}
 use mathlib.Core.List.{[], _∷_}
-use Prim.Native.Nat.{ℕ}
+use Prim.Native.Nat.{ℕ, _<_}
 use lib.Dec.{eqb}
 use borrow.Author.Tests.{ne-eqb}
 use Rattle.joining.specs.declared.joiner.Emitted.the-variants.{Empty, One as OneOut}
@@ -13,7 +13,7 @@ use Rattle.clusters.specs.declared.table.Row.{Row}
 use Rattle.clusters.specs.declared.gather.Pending.{Pending}
 use Rattle.clusters.specs.declared.gather.Pending.the-variants.{Nothing, One, Two}
 use Rattle.clusters.specs.declared.gather.Gathered.{Gathered}
-use Rattle.clusters.proofs.Clustering.{eqb-same, sameRow, two-some, two-none, three-some, three-none}
+use Rattle.clusters.proofs.Clustering.{eqb-same, sameRow, two-low, three-low, two-some, two-none, three-some, three-none}
 
 -- ---- rows compared
 
@@ -28,6 +28,9 @@ module _ (x y : Row) where
   rows-third e d = simp (e, d, eqb-same (y .first), eqb-same (y .second))
 
 -- ---- a step of the gatherer
+
+pub decided-plain : (a b c : ℕ) → a < 0x1100 → GatherStepped (Two a b) c (record { pending = Two b c; out = OneOut a })
+decided-plain a b c h = record { pends = rw (three-low a b c h, two-low a b h); writes = rw (three-low a b c h, two-low a b h) }
 
 module _ (a b c : ℕ) {r : ℕ} (three : r ≡ orZero (threeOf a b c)) where
   pub decided-three : (r ≡ 0 → ⊥) → GatherStepped (Two a b) c (record { pending = Nothing; out = OneOut r })

@@ -7,16 +7,17 @@ use mathlib.Core.Bool.{true, false, true≢false}
 use mathlib.Core.List.{List, [], _∷_}
 use Prim.Native.Nat.{ℕ}
 use native.Mathlib.Omega.{arith}
+use lib.Dec.{T}
 use lib.ListN.{length}
 use Rattle.laws.specs.Lists.{each, All, none, also}
 use Rattle.laws.proofs.Lists.{each-alone, all-map}
 use Rattle.letters.specs.Sorts.{sortOf}
 use Rattle.letters.specs.Syllables.{isSyllable}
 use Rattle.letters.specs.declared.sort.Sort.{Sort}
-use Rattle.letters.proofs.Sorts.{sort-between}
+use Rattle.letters.specs.declared.sort.Sort.the-variants.{ModernInitial, OldInitial, InitialFiller, PeakFiller, ModernPeak, OldPeak, ModernFinal, OldFinal, Lv, Lvt, Other}
 use Rattle.letters.proofs.FullParts.{full-none}
-use Rattle.joining.specs.Roles.{Hard}
-use Rattle.joining.proofs.Roles.{peak-range, final-range}
+use Rattle.joining.specs.Roles.{roleIn, roleOf, Hard}
+use Rattle.joining.proofs.Roles.{firm, hard-as}
 use Rattle.joining.proofs.Joins.{join-none}
 use Rattle.clusters.specs.Table.{lettersOf, nowhere, placeAs, placeOf}
 use Rattle.clusters.specs.Simple.{letterAt, simple}
@@ -41,14 +42,22 @@ letters-foreign c n = by (lettersOf c) refl
     by (a ∷ b ∷ x) e = absurd (first (rw e at (letters-one-place c)) (rw e at (letters-placed c (omega (arith, ap length e)))))
 
 -- it joins with nothing before it: a modern peak, and a modern final, has a place
+place-firm : (s : Sort) → placeAs s ≡ nowhere → T (firm (roleIn s))
+place-firm (ModernInitial m) e = tt
+place-firm (OldInitial m) e = tt
+place-firm InitialFiller e = tt
+place-firm PeakFiller e = tt
+place-firm (ModernPeak m) e = true≢false (ap letterAt e)
+place-firm (OldPeak m) e = tt
+place-firm (ModernFinal m) e = true≢false (ap letterAt e)
+place-firm (OldFinal m) e = tt
+place-firm Lv e = tt
+place-firm Lvt e = tt
+place-firm Other e = tt
+
 hard-foreign : (c : ℕ) → placeOf c ≡ nowhere → Hard c
-hard-foreign c n = (
-  (λ r. let h = peak-range c r in placed (sym (sort-between 0x1161 0x1175 tt (h .0) (h .1))) refl),
-  (λ r. let h = final-range c r in placed (sym (sort-between 0x11A8 0x11C2 tt (h .0) (h .1))) refl),
-)
-  where
-    placed : {s : Sort} → sortOf c ≡ s → letterAt (placeAs s) ≡ true → ⊥
-    placed e q = true≢false (sym q ∙ sym (ap (λ s. letterAt (placeAs s)) e) ∙ ap letterAt n)
+unfolding roleOf
+hard-foreign c n = hard-as c refl (place-firm (sortOf c) n)
 
 -- ---- SIMPLE FORM
 pub simple-others : {x : List ℕ} → All Foreign x → simple x ≡ x

@@ -1,81 +1,103 @@
--- The table of 768 numbers, and its rows by value. It has: one test over all 256 rows, which antt
--- computes, and what it says of a table (`rows-right`); a row as the code reads it, inside the
--- table and where a code is alone (`row-read`, `row-below`, `row-above`); the letters of a row by
--- value (`by-one`, `by-two`, `by-three`), which are those of every number (`letters-by`).
+-- The numbers of the two tables, and their rows by value. It has: the rows of codes, one after the
+-- other (`rows-at`); both tables as the code puts them together (`both-rows`); a row as the code
+-- reads it (`row-read`, `row-numbered`), and where a code is alone (`row-outside`); the letters of
+-- a row by value (`by-one`, `by-two`, `by-three`), which are those of every number (`letters-by`).
 use mathlib.Core.Path.{_≡_, refl, sym, _∙_, ap}
-use mathlib.Core.Bool.{Bool, true, false, _&&_}
-use mathlib.Core.List.{List, [], _∷_, _++_}
-use Prim.Native.Nat.{ℕ, zero, suc, _+_, _-_, _*_, _≤_, _<_}
+use mathlib.Core.Bool.{false}
+use mathlib.Core.List.{List, [], _∷_, _++_, append-nil}
+use Prim.Native.Nat.{ℕ, zero, suc, _+_, _*_, _≤_, _<_}
 use native.Mathlib.Nat.{add-zero}
 use native.Mathlib.Omega.{arith}
-use lib.Dec.{T, eqb}
-use lib.ListN.{length, getD, take, drop}
-use lib.Seq.{getD-take, getD-drop}
+use lib.Dec.{eqb}
+use lib.ListN.{length, getD, take, drop, length-append, length-take, length-drop, drop-of-length-le}
+use lib.Seq.{length-take-le, getD-take, getD-drop, take-at, drop-at, drop-append-add}
 use borrow.Author.Tests.{eqb-true, eqb-false, ne-eqb}
-use Rattle.laws.specs.Lists.{All, none, also}
-use Rattle.laws.specs.Ranges.{within}
-use Rattle.laws.specs.Strings.{same}
-use Rattle.laws.specs.Writing.{Room, Wrote}
-use Rattle.laws.proofs.Bools.{test, T-true, and-T-left, and-T-right}
-use Rattle.laws.proofs.Ranges.{within-below, within-above, within-least}
-use Rattle.laws.proofs.Strings.{same-true}
+use Rattle.laws.specs.Lists.{each, All, none, also}
+use Rattle.laws.specs.Writing.{front, Room, Wrote}
+use Rattle.laws.proofs.Bools.{test}
+use Rattle.laws.proofs.Lists.{each-append}
 use Rattle.laws.proofs.Filling.{room-all}
-use Rattle.clusters.specs.Table.{lettersOf, clusterRow}
-use Rattle.clusters.specs.Rows.{Rows, asRow, rowBy, lettersBy}
+use Rattle.clusters.specs.Table.{lettersOf, hasRow, clusterRow}
+use Rattle.clusters.specs.Rows.{tableCodes, extendedCodes, rowCodes, rowCode, rowsOf, Rows, asRow, rowBy, lettersBy}
 use Rattle.clusters.specs.declared.table.Row.{Row}
+use Rattle.clusters.proofs.Codes.{Numbered, codes-length, row-least}
 use Rattle.clusters.proofs.Rule.{letters-least, letters-most, letters-outside, letters-nonzero}
 
--- ---- one test over all rows of a table, and what it says
+-- ---- the rows of codes, one after the other
 
--- the row of the code 1100 + k
-abbrev pub rightRow : List ℕ → ℕ → Bool
-rightRow table k = same (take 3 (drop (3 * k) table)) (clusterRow (0x1100 + k))
+row-length : (c : ℕ) → length (clusterRow c) ≡ 3
+row-length c = length-take-le 3 (lettersOf c ++ (0 ∷ 0 ∷ [])) (rw length-append (omega (arith, letters-least c)))
 
--- the test passes at every number below n
-abbrev pub below : (ℕ → Bool) → ℕ → Bool
-below f zero = true
-below f (suc n) = f n && below f n
+rows-length : (codes : List ℕ) → length (rowsOf codes) ≡ 3 * length codes
+unfolding each
+rows-length [] = refl
+rows-length (c ∷ codes) = rw length-append (omega (arith, row-length c, rows-length codes))
 
-below-at : (f : ℕ → Bool) (n : ℕ) → T (below f n) → (k : ℕ) → k < n → T (f k)
-below-at f zero t k h = absurd (omega arith)
-below-at f (suc n) t k h =
-    test (eqb k n) (λ e. rw (eqb-true k n e) (and-T-left (f n) (below f n) t))
-    (λ e. below-at f n (and-T-right (f n) (below f n) t) k (let d = eqb-false k n e in omega arith))
+-- row k is that of code k
+rows-at : (codes : List ℕ) (k : ℕ) → k < length codes → take 3 (drop (3 * k) (rowsOf codes)) ≡ clusterRow (getD codes k 0)
+unfolding each
+rows-at [] k h = absurd (omega arith)
+rows-at (c ∷ codes) zero h = take-at (clusterRow c) (rowsOf codes) 3 (row-length c)
+rows-at (c ∷ codes) (suc k) h =
+    let far : 3 * suc k ≡ length (clusterRow c) + 3 * k = omega (arith, row-length c) in
+    ap (λ (n : ℕ). take 3 (drop n (clusterRow c ++ rowsOf codes))) far ∙ ap (take 3) (drop-append-add (clusterRow c) (rowsOf codes) (3 * k))
+    ∙ rows-at codes k (omega arith)
 
-pub rows-right : (table : List ℕ) → 768 ≡ length table → T (below (rightRow table) 256) → Rows table
-rows-right table size t = record { size = size; row = λ k h. same-true _ _ (T-true _ (below-at (rightRow table) 256 t k h)) }
+-- ---- both tables, as the code puts them together: the first at the front of a buffer of zeros,
+-- and the second after it
+
+module _ (zeros : List ℕ) {first second both part : List ℕ} (is-first : first ≡ rowsOf tableCodes) (is-second : second ≡ rowsOf extendedCodes)
+    (size-first : 768 ≡ length first) (size-second : 303 ≡ length second) (size : length zeros ≡ 1071)
+    (put-first : both ≡ front first zeros) (put-second : part ≡ front second (take 303 (drop 768 both))) where
+  at-front : take 768 both ≡ first
+  at-front = rw put-first (take-at first (drop (length first) zeros) 768 (sym size-first))
+
+  after-first : length (drop 768 both) ≡ 303
+  after-first = rw (put-first, drop-at first (drop (length first) zeros) 768 (sym size-first)) (simp length-drop (omega (arith, size-first, size)))
+
+  is-part : part ≡ second
+  is-part =
+      let full : length (take 303 (drop 768 both)) ≤ length second = simp length-take (omega (arith, size-second, after-first)) in
+      put-second ∙ ap (λ (l : List ℕ). second ++ l) (drop-of-length-le (take 303 (drop 768 both)) full) ∙ append-nil second
+
+  nothing-after : drop 303 (drop 768 both) ≡ []
+  nothing-after = let end : length (drop 768 both) ≤ 303 = omega (arith, after-first) in drop-of-length-le (drop 768 both) end
+
+  put-both : take 768 both ++ (part ++ drop 303 (drop 768 both)) ≡ first ++ second
+  put-both = rw (at-front, is-part, nothing-after, append-nil second)
+
+  pub both-rows : (1071 ≡ length (take 768 both ++ (part ++ drop 303 (drop 768 both)))) × Rows (take 768 both ++ (part ++ drop 303 (drop 768 both)))
+  both-rows = (
+    rw put-both (rw length-append (omega (arith, size-first, size-second))),
+    put-both ∙ rw (is-first, is-second) (sym (each-append clusterRow tableCodes extendedCodes)),
+  )
 
 -- ---- the row of a code by value, as the code reads it
 
 in-row : (l : List ℕ) (n i : ℕ) → i < 3 → getD (take 3 (drop n l)) i 0 ≡ getD l (n + i) 0
 in-row l n i h = getD-take 3 (drop n l) i 0 h ∙ getD-drop n l i 0
 
-module _ (c : ℕ) where
-  row-outside : within 0x1100 0x11FF c ≡ false → asRow (c ∷ []) ≡ rowBy c
-  unfolding rowBy
-  row-outside e = rw (letters-outside c e)
+pub table-size : {table : List ℕ} → Rows table → length table ≡ 1071
+table-size rows = ap length rows ∙ rows-length rowCodes ∙ ap (λ (n : ℕ). 3 * n) codes-length
 
-  pub row-below : c < 0x1100 → asRow (c ∷ []) ≡ rowBy c
-  row-below h = row-outside (within-below 0x1100 0x11FF c h)
+pub row-read : {table : List ℕ} → Rows table → (k : ℕ) → k < 357 → record {
+  first = getD table (3 * k) 0;
+  second = getD table (3 * k + 1) 0;
+  third = getD table (3 * k + 2) 0;
+} ≡ rowBy (rowCode k)
+unfolding rowBy
+row-read {table} rows k h =
+    let read = in-row table (3 * k) in
+    let here : take 3 (drop (3 * k) table) ≡ clusterRow (rowCode k) = ap (λ (t : List ℕ). take 3 (drop (3 * k) t)) rows ∙ rows-at rowCodes k (rw codes-length h) in
+    sym (sym (ap asRow here) ∙ simp (read 0 (omega arith), read 1 (omega arith), read 2 (omega arith), add-zero))
 
-  pub row-above : 0x11FF < c → asRow (c ∷ []) ≡ rowBy c
-  row-above h = row-outside (within-above 0x1100 0x11FF c h)
+-- the row of a number is that of its code; what has no row is alone
+pub row-numbered : (c : ℕ) {k : ℕ} {row : Row} → Numbered c k → row ≡ rowBy (rowCode k) → row ≡ rowBy c
+row-numbered c is e = e ∙ ap rowBy (is .code)
 
-  row-inside : {table : List ℕ} → Rows table → 0x1100 ≤ c → c ≤ 0x11FF → rowBy c ≡ asRow (take 3 (drop (3 * (c - 0x1100)) table))
-  unfolding rowBy
-  row-inside {table} rows l h =
-      let code : 0x1100 + (c - 0x1100) ≡ c = omega arith in
-      let here : take 3 (drop (3 * (c - 0x1100)) table) ≡ clusterRow c = rw code at (rows .row (c - 0x1100) (omega arith)) in
-      sym (ap asRow here)
-
-  pub row-read : {table : List ℕ} → Rows table → 0x1100 ≤ c → c ≤ 0x11FF → record {
-    first = getD table (3 * (c - 0x1100)) 0;
-    second = getD table (3 * (c - 0x1100) + 1) 0;
-    third = getD table (3 * (c - 0x1100) + 2) 0;
-  } ≡ rowBy c
-  row-read {table} rows l h =
-      let read = in-row table (3 * (c - 0x1100)) in
-      sym (row-inside rows l h ∙ simp (read 0 (omega arith), read 1 (omega arith), read 2 (omega arith), add-zero))
+pub row-outside : (c : ℕ) → hasRow c ≡ false → asRow (c ∷ []) ≡ rowBy c
+unfolding rowBy
+row-outside c e = rw (letters-outside c e)
 
 -- ---- the letters of a row by value
 
@@ -114,10 +136,8 @@ row-letters c n = row-back (letters-nonzero c n) (letters-least c) (letters-most
 
 -- THE LETTERS BY VALUE ARE THE LETTERS, of every number
 pub letters-by : (c : ℕ) → lettersBy (rowBy c) ≡ lettersOf c
-letters-by c = test (within 0x1100 0x11FF c) listed (λ e. rw (← (row-outside c e)) (sym (letters-outside c e)))
-  where
-    listed : within 0x1100 0x11FF c ≡ true → lettersBy (rowBy c) ≡ lettersOf c
-    listed e = row-letters c (λ z. omega (arith, within-least 0x1100 0x11FF c e))
+letters-by c =
+    test (hasRow c) (λ e. row-letters c (λ z. omega (arith, row-least c e))) (λ e. rw (← (row-outside c e)) (sym (letters-outside c e)))
 
 -- so a row that was read has room for its letters, and they are written
 module _ (c : ℕ) {row : Row} (read : row ≡ rowBy c) where

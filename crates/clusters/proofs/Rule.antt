@@ -1,17 +1,18 @@
--- The table's rule. In order: ONE TEST over the 256 rows, which antt computes (`ruled`); ONE LEMMA,
--- from the test to the rule at each row (`rule-at`), and so THE RULE (`table-rule`). Then the list
--- of clusters, which gathering searches, held to the rows (`agrees`), and what holds of the letters
--- of every number (`by-letters`): how many they are, outside the table, good ones, and the rule
--- once more. Last the clusters counted, and rows of documents 01 and 02 as worked examples.
+-- The rule of the two tables. In order: ONE TEST over all 357 rows, which antt computes (`ruled`);
+-- ONE LEMMA, from the test to the rule at each row (`rule-at`), and so THE RULE (`table-rule`).
+-- Then the list of clusters, which gathering searches, held to the rows (`agrees`), and what holds
+-- of the letters of every number (`by-letters`): how many they are, outside the tables, good ones,
+-- and the rule once more. Last the clusters counted, the sorter held to the rows (`make-told`), and
+-- rows of documents 01 and 02 as worked examples.
 use mathlib.Core.Path.{_≡_, refl, sym, _∙_, ap}
-use mathlib.Core.Bool.{Bool, true, false, cond, _&&_, _||_, true≢false}
+use mathlib.Core.Bool.{Bool, true, false, cond, not, _&&_, _||_, true≢false}
 use mathlib.Core.List.{List, [], _∷_, map}
-use Prim.Native.Nat.{ℕ, zero, suc, _+_, _-_, _≤_, _<_}
+use Prim.Native.Nat.{ℕ, _≤_, _<_}
 use native.Mathlib.Omega.{arith}
 use lib.Dec.{T, eqb, leb}
 use lib.ListN.{length, getD, length-map, List·getD-map}
 use borrow.Author.Tests.{eqb-true, leb-true}
-use Rattle.laws.specs.Lists.{All, none, also, count}
+use Rattle.laws.specs.Lists.{All, none, also}
 use Rattle.laws.specs.Ranges.{within}
 use Rattle.laws.specs.Strings.{same}
 use Rattle.laws.proofs.Bools.{test, T-true, and-T-left, and-T-right}
@@ -21,11 +22,16 @@ use Rattle.laws.proofs.Strings.{same-true, every-all, packed}
 use Rattle.laws.proofs.Tables.{every, every-at, distinct, distinct-at}
 use Rattle.answers.specs.Checks.{bad}
 use Rattle.answers.proofs.Checks.{good-low}
-use Rattle.letters.specs.Sorts.{sortOf, hasSort}
+use Rattle.letters.specs.Sorts.{modernInitial, modernFinal, neither, classOf, makeOf, sortOf}
+use Rattle.letters.specs.declared.sort.Make.{Make}
+use Rattle.letters.specs.declared.sort.Make.the-variants.{Simple, Cluster as Several}
 use Rattle.letters.specs.declared.sort.Sort.{Sort}
-use Rattle.letters.specs.declared.sort.Sort.the-variants.{ModernInitial, OldInitial, ModernPeak, OldPeak, ModernFinal, OldFinal}
-use Rattle.clusters.specs.Table.{Cluster, two, three, modernInitials, oldInitials, modernPeaks, oldPeaks, modernFinals, oldFinals, clusters, clusterCode, lettersIn, lettersFrom, lettersOf, clusterRow, Place, initial, peak, final, nowhere, placeOf, Rule, TableRule}
+use Rattle.letters.specs.declared.sort.Sort.the-variants.{ModernInitial, OldInitial, InitialFiller, PeakFiller, ModernPeak, OldPeak, ModernFinal, OldFinal, Lv, Lvt, Other}
+use Rattle.letters.proofs.Sorts.{classIn, sort-is-class, classNumber, isClass}
+use Rattle.clusters.specs.Table.{Cluster, two, three, modernInitials, oldInitials, modernPeaks, oldPeaks, modernFinals, oldFinals, addedInitials, addedPeaks, addedFinals, extendedInitials, extendedPeaks, extendedFinals, clusters, clusterCode, lettersIn, lettersFrom, lettersOf, hasRow, clusterRow, Place, initial, peak, final, nowhere, placeOf, Rule, TableRule}
+use Rattle.clusters.specs.Rows.{numbersFrom, rowCodes, rowCode}
 use Rattle.clusters.specs.Simple.{isLetter}
+use Rattle.clusters.proofs.Codes.{Numbered, has-number, codes-length, off-neither}
 
 -- ---- the test
 
@@ -60,25 +66,16 @@ rightLetter c l = eqb (placeNumber (placeOf l)) (placeNumber (placeOf c)) && lon
 unfoldable rightRow : ℕ → Bool
 rightRow c = (lone c || isLetter c) && every (λ n l. rightLetter c l) 0 (lettersOf c)
 
--- n numbers from lo on
-unfoldable run : ℕ → ℕ → List ℕ
-run lo zero = []
-run lo (suc n) = lo ∷ run (suc lo) n
-
--- the codes of the table, 1100 to 11FF
-abbrev codes : List ℕ
-codes = run 0x1100 256
-
 -- the row of a code as one number
 unfoldable packedRow : ℕ → ℕ
 packedRow c = packed (clusterRow c)
 
--- THE TEST of the table: each of its 256 rows is right, and no two of them are equal
+-- THE TEST of both tables together: each of their 357 rows is right, and no two of them are equal
 unfoldable ruled : Bool
-ruled = every (λ n c. rightRow c) 0 codes && distinct (map packedRow codes)
+ruled = every (λ n c. rightRow c) 0 rowCodes && distinct (map packedRow rowCodes)
 
 holds : T ruled
-unfolding ruled rightRow rightLetter lone run packedRow lettersOf clusters sortOf within
+unfolding ruled rightRow rightLetter lone numbersFrom packedRow lettersOf clusters sortOf classOf makeOf within
 holds = tt
 
 -- ---- from the test to the rule at each row
@@ -108,64 +105,50 @@ module _ (c : ℕ) (t : T (rightRow c)) where
   cluster-placed : 1 < length (lettersOf c) → placeOf c ≡ nowhere → ⊥
   cluster-placed h n = test (lone c) (λ e. omega (arith, ap length (lone-letters c e))) (λ e. rw (e, n) at alone-or-placed)
 
-length-run : (n lo : ℕ) → length (run lo n) ≡ n
-unfolding run
-length-run zero lo = refl
-length-run (suc n) lo = ap suc (length-run n (suc lo))
-
-run-at : (n lo k : ℕ) → k < n → getD (run lo n) k 0 ≡ lo + k
-unfolding run
-run-at zero lo k h = absurd (omega arith)
-run-at (suc n) lo zero h = omega arith
-run-at (suc n) lo (suc k) h = let e : suc lo + k ≡ lo + suc k = omega arith in run-at n (suc lo) k (omega arith) ∙ e
-
 no-row : packedRow 0 ≡ 0
 unfolding packedRow lettersOf clusters
 no-row = refl
 
--- a code of the table stands among the codes
-module _ (c : ℕ) (l : 0x1100 ≤ c) (h : c ≤ 0x11FF) where
-  code-in : c - 0x1100 < length codes
-  code-in = rw length-run (omega arith)
+-- the row of a code, by its number
+module _ (c : ℕ) {k : ℕ} (is : Numbered c k) where
+  number-in : k < length rowCodes
+  number-in = rw codes-length (is .small)
 
-  code-at : getD codes (c - 0x1100) 0 ≡ c
-  code-at = let e : 0x1100 + (c - 0x1100) ≡ c = omega arith in run-at 256 0x1100 (c - 0x1100) (omega arith) ∙ e
+  packed-in : k < length (map packedRow rowCodes)
+  packed-in = rw length-map number-in
 
-  packed-in : c - 0x1100 < length (map packedRow codes)
-  packed-in = rw length-map code-in
-
-  packed-at : getD (map packedRow codes) (c - 0x1100) 0 ≡ packedRow c
-  packed-at = (rw no-row at (List·getD-map packedRow codes (c - 0x1100) 0)) ∙ ap packedRow code-at
+  packed-at : getD (map packedRow rowCodes) k 0 ≡ packedRow c
+  packed-at = (rw no-row at (List·getD-map packedRow rowCodes k 0)) ∙ ap packedRow (is .code)
 
 -- THE LEMMA: the test gives the rule at each row
 module _ (t : T ruled) where
-  row-right : (c : ℕ) → 0x1100 ≤ c → c ≤ 0x11FF → T (rightRow c)
+  row-right : (c : ℕ) {k : ℕ} → Numbered c k → T (rightRow c)
   unfolding ruled
-  row-right c l h =
-      rw (code-at c l h)
-      at (every-at (λ n c. rightRow c) 0 codes (and-T-left (every (λ n c. rightRow c) 0 codes) (distinct (map packedRow codes)) t) (c - 0x1100) (code-in c l h))
+  row-right c {k} is =
+      rw (is .code)
+      at (every-at (λ n c. rightRow c) 0 rowCodes (and-T-left (every (λ n c. rightRow c) 0 rowCodes) (distinct (map packedRow rowCodes)) t) k (number-in c is))
 
-  row-apart : (c d : ℕ) → 0x1100 ≤ c → c ≤ 0x11FF → 0x1100 ≤ d → d ≤ 0x11FF → packedRow c ≡ packedRow d → c ≡ d
+  row-apart : (c d : ℕ) {k j : ℕ} → Numbered c k → Numbered d j → packedRow c ≡ packedRow d → c ≡ d
   unfolding ruled
-  row-apart c d l h m g e =
-      let apart = and-T-right (every (λ n c. rightRow c) 0 codes) (distinct (map packedRow codes)) t in
-      let index =
-      distinct-at (map packedRow codes) (c - 0x1100) (d - 0x1100) apart (packed-in c l h) (packed-in d m g) (packed-at c l h ∙ e ∙ sym (packed-at d m g))
-      in
-      omega (arith, index)
+  row-apart c d {k} {j} is other e =
+      let apart = and-T-right (every (λ n c. rightRow c) 0 rowCodes) (distinct (map packedRow rowCodes)) t in
+      let one = distinct-at (map packedRow rowCodes) k j apart (packed-in c is) (packed-in d other) (packed-at c is ∙ e ∙ sym (packed-at d other)) in
+      sym (is .code) ∙ ap rowCode one ∙ other .code
 
   rule-at : TableRule
   unfolding packedRow
-  rule-at c l h =
-      let right = row-right c l h in
+  rule-at c has =
+      has-number c has
+      (λ k is.
+      let right = row-right c is in
       record {
         placed = λ several. all-map (λ x t n. cluster-placed c right several (sym (right-place c x t) ∙ n)) (right-letters c right);
         one-place = all-map (right-place c) (right-letters c right);
         alone = all-map (right-alone c) (right-letters c right);
-        distinct = λ d m g e. row-apart c d l h m g (ap packed e);
-      }
+        distinct = λ d too e. has-number d too (λ j other. row-apart c d is other (ap packed e));
+      })
 
--- THE RULE OF THE TABLE
+-- THE RULE OF BOTH TABLES
 pub table-rule : TableRule
 table-rule = rule-at holds
 
@@ -173,35 +156,35 @@ table-rule = rule-at holds
 
 -- the most letters that a code may have: modern initials and modern finals two, all others three
 abbrev mostOf : ℕ → ℕ
-mostOf c = cond (hasSort ModernInitial c || hasSort ModernFinal c) 2 3
+mostOf c = cond (isClass modernInitial (classOf c) || isClass modernFinal (classOf c)) 2 3
 
--- a cluster's row has its letters; they are few enough; all are numbers of the table
+-- a cluster has a row with its letters; they are few enough; all are numbers of 01's table
 unfoldable agrees : Cluster → Bool
 agrees k =
-    (within 0x1100 0x11FF (clusterCode k) && same (lettersOf (clusterCode k)) (lettersIn k))
+    (hasRow (clusterCode k) && same (lettersOf (clusterCode k)) (lettersIn k))
     && (leb (length (lettersIn k)) (mostOf (clusterCode k)) && every (λ n l. within 0x1100 0x11FF l) 0 (lettersIn k))
 
 list-agrees : T (every (λ n k. agrees k) 0 clusters)
-unfolding agrees lettersOf clusters sortOf within
+unfolding agrees hasRow lettersOf clusters classOf within
 list-agrees = tt
 
 all-agree : All (λ k. T (agrees k)) clusters
 all-agree = every-all agrees (λ k t. t) clusters 0 list-agrees
 
 module _ (k : Cluster) (t : T (agrees k)) where
-  of-code : T (within 0x1100 0x11FF (clusterCode k) && same (lettersOf (clusterCode k)) (lettersIn k))
+  of-code : T (hasRow (clusterCode k) && same (lettersOf (clusterCode k)) (lettersIn k))
   unfolding agrees
-  of-code = and-T-left (within 0x1100 0x11FF (clusterCode k) && same (lettersOf (clusterCode k)) (lettersIn k)) _ t
+  of-code = and-T-left (hasRow (clusterCode k) && same (lettersOf (clusterCode k)) (lettersIn k)) _ t
 
   of-letters : T (leb (length (lettersIn k)) (mostOf (clusterCode k)) && every (λ n l. within 0x1100 0x11FF l) 0 (lettersIn k))
   unfolding agrees
-  of-letters = and-T-right (within 0x1100 0x11FF (clusterCode k) && same (lettersOf (clusterCode k)) (lettersIn k)) _ t
+  of-letters = and-T-right (hasRow (clusterCode k) && same (lettersOf (clusterCode k)) (lettersIn k)) _ t
 
-  inside : within 0x1100 0x11FF (clusterCode k) ≡ true
-  inside = T-true _ (and-T-left (within 0x1100 0x11FF (clusterCode k)) _ of-code)
+  inside : hasRow (clusterCode k) ≡ true
+  inside = T-true _ (and-T-left (hasRow (clusterCode k)) _ of-code)
 
   found : lettersOf (clusterCode k) ≡ lettersIn k
-  found = same-true _ _ (T-true _ (and-T-right (within 0x1100 0x11FF (clusterCode k)) _ of-code))
+  found = same-true _ _ (T-true _ (and-T-right (hasRow (clusterCode k)) _ of-code))
 
   few : length (lettersIn k) ≤ mostOf (clusterCode k)
   few = leb-true _ _ (T-true _ (and-T-left (leb (length (lettersIn k)) (mostOf (clusterCode k))) _ of-letters))
@@ -244,25 +227,29 @@ three-or-fewer true = omega arith
 three-or-fewer false = omega arith
 
 letters-few : (c : ℕ) → length (lettersOf c) ≤ mostOf c
-letters-few = by-letters (λ c x. length x ≤ mostOf c) (λ c. one-or-more (hasSort ModernInitial c || hasSort ModernFinal c)) few
+letters-few = by-letters (λ c x. length x ≤ mostOf c) (λ c. one-or-more (isClass modernInitial (classOf c) || isClass modernFinal (classOf c))) few
 
 pub letters-most : (c : ℕ) → length (lettersOf c) ≤ 3
-letters-most c = omega (arith, letters-few c, three-or-fewer (hasSort ModernInitial c || hasSort ModernFinal c))
+letters-most c = omega (arith, letters-few c, three-or-fewer (isClass modernInitial (classOf c) || isClass modernFinal (classOf c)))
 
 -- of a modern initial, and of a modern final
-pub initial-most : (c : ℕ) → sortOf c ≡ ModernInitial → length (lettersOf c) ≤ 2
+pub initial-most : (c : ℕ) → classOf c ≡ modernInitial → length (lettersOf c) ≤ 2
 initial-most c e = simp e at (letters-few c)
 
-pub final-most : (c : ℕ) → sortOf c ≡ ModernFinal → length (lettersOf c) ≤ 2
+pub final-most : (c : ℕ) → classOf c ≡ modernFinal → length (lettersOf c) ≤ 2
 final-most c e = simp e at (letters-few c)
 
--- ---- outside the table, and good letters
+-- ---- outside the tables, and good letters
 
-pub letters-outside : (c : ℕ) → within 0x1100 0x11FF c ≡ false → lettersOf c ≡ c ∷ []
+pub letters-outside : (c : ℕ) → hasRow c ≡ false → lettersOf c ≡ c ∷ []
 letters-outside =
-    by-letters (λ c x. within 0x1100 0x11FF c ≡ false → x ≡ c ∷ []) (λ c h. refl) (λ k t h. absurd (true≢false (sym (inside k t) ∙ h)))
+    by-letters (λ c x. hasRow c ≡ false → x ≡ c ∷ []) (λ c h. refl) (λ k t h. absurd (true≢false (sym (inside k t) ∙ h)))
 
--- what holds of every number of the table, and of a code, holds of the code's letters
+-- so a code with two letters or more has a row
+pub letters-row : (c : ℕ) → 1 < length (lettersOf c) → hasRow c ≡ true
+letters-row c h = test (hasRow c) (λ e. e) (λ e. absurd (omega (arith, ap length (letters-outside c e))))
+
+-- what holds of every number of 01's table, and of a code, holds of the code's letters
 pub letters-all : (P : ℕ → Type 0) → ((l : ℕ) → 0x1100 ≤ l → l ≤ 0x11FF → P l) → (c : ℕ) → P c → All P (lettersOf c)
 letters-all P low = by-letters (λ c x. P c → All P x) (λ c p. also p none) (λ k t p. all-map by (letters-inside k t))
   where
@@ -284,14 +271,12 @@ one-letter c {a} = by-letters (λ c x. x ≡ a ∷ [] → a ≡ c) (λ c e. cc) 
     several (two k x y) e = omega (arith, ap length e)
     several (three k x y z) e = omega (arith, ap length e)
 
--- ---- the rule of every number: one outside the table is alone
+-- ---- the rule of every number: one outside the tables is alone
 
 module _ {G : Type 0} (c : ℕ) where
   -- by cases: the rule, or alone
   ruled-or-alone : (Rule c → G) → (lettersOf c ≡ c ∷ [] → G) → G
-  ruled-or-alone rule alone =
-      test (within 0x1100 0x11FF c) (λ e. rule (table-rule c (within-least 0x1100 0x11FF c e) (within-most 0x1100 0x11FF c e)))
-      (λ e. alone (letters-outside c e))
+  ruled-or-alone rule alone = test (hasRow c) (λ e. rule (table-rule c e)) (λ e. alone (letters-outside c e))
 
 pub letters-alone : (c : ℕ) → All (λ l. lettersOf l ≡ l ∷ []) (lettersOf c)
 letters-alone c = ruled-or-alone c (λ r. r .alone) (λ e. rw e (also e none))
@@ -304,32 +289,78 @@ letters-one-place c = ruled-or-alone c (λ r. r .one-place) (λ e. rw e (also re
 
 pub letters-distinct : (c d : ℕ) → lettersOf c ≡ lettersOf d → c ≡ d
 letters-distinct c d e =
-    test (within 0x1100 0x11FF c)
+    test (hasRow c)
     (λ p.
-    test (within 0x1100 0x11FF d) (λ q. listed p q)
+    test (hasRow d) (λ q. table-rule c p .distinct d q (rw e))
     (λ q. sym (one-letter c (e ∙ letters-outside d q))))
     (λ p. one-letter d (sym e ∙ letters-outside c p))
-  where
-    listed : within 0x1100 0x11FF c ≡ true → within 0x1100 0x11FF d ≡ true → c ≡ d
-    listed p q =
-        table-rule c (within-least 0x1100 0x11FF c p) (within-most 0x1100 0x11FF c p) .distinct d (within-least 0x1100 0x11FF d q)
-        (within-most 0x1100 0x11FF d q) (rw e)
 
--- ---- the clusters counted, by their lists and by the sorts of their codes
+-- ---- the clusters counted, by their lists
 
 pub clusters-counted : (length modernInitials ≡ 5) × (length modernPeaks ≡ 11) × (length modernFinals ≡ 13) × (length oldInitials ≡ 62)
-    × (length oldPeaks ≡ 44) × (length oldFinals ≡ 52) × (length clusters ≡ 187)
+    × (length oldPeaks ≡ 44) × (length oldFinals ≡ 52) × (length addedInitials ≡ 5) × (length addedPeaks ≡ 5) × (length addedFinals ≡ 6)
+    × (length extendedInitials ≡ 29) × (length extendedPeaks ≡ 23) × (length extendedFinals ≡ 49) × (length clusters ≡ 304)
 unfolding clusters
-clusters-counted = (refl, refl, refl, refl, refl, refl, refl)
+clusters-counted = (refl, refl, refl, refl, refl, refl, refl, refl, refl, refl, refl, refl, refl)
 
--- how many codes of the sort, from 1100 to 11FF, have more than one letter
-abbrev pub clustersOf : Sort → ℕ
-clustersOf s = count (λ c. hasSort s c && leb 2 (length (lettersOf c))) 0x1100 0x100
+-- ---- THE SORTER SAYS CLUSTER JUST WHERE THE ROW LISTS SEVERAL LETTERS, of every number: antt
+-- computes it over the rows, and what has no row is no letter
 
-pub sorts-counted : (clustersOf ModernInitial ≡ 5) × (clustersOf ModernPeak ≡ 11) × (clustersOf ModernFinal ≡ 13) × (clustersOf OldInitial ≡ 62)
-    × (clustersOf OldPeak ≡ 44) × (clustersOf OldFinal ≡ 52)
-unfolding count sortOf within lettersOf clusters
-sorts-counted = (refl, refl, refl, refl, refl, refl)
+abbrev compound : Make → Bool
+compound Simple = false
+compound Several = true
+
+abbrev pub saysCluster : Sort → Bool
+saysCluster (ModernInitial m) = compound m
+saysCluster (OldInitial m) = compound m
+saysCluster InitialFiller = false
+saysCluster PeakFiller = false
+saysCluster (ModernPeak m) = compound m
+saysCluster (OldPeak m) = compound m
+saysCluster (ModernFinal m) = compound m
+saysCluster (OldFinal m) = compound m
+saysCluster Lv = false
+saysCluster Lvt = false
+saysCluster Other = false
+
+abbrev pub listsSeveral : ℕ → Bool
+listsSeveral c = leb 2 (length (lettersOf c))
+
+abbrev alike : Bool → Bool → Bool
+alike a b = cond a b (not b)
+
+alike-same : (a b : Bool) → T (alike a b) → a ≡ b
+alike-same true true t = refl
+alike-same true false t = absurd t
+alike-same false true t = absurd t
+alike-same false false t = refl
+
+told : T (every (λ n c. alike (saysCluster (sortOf c)) (listsSeveral c)) 0 rowCodes)
+unfolding numbersFrom sortOf classOf makeOf lettersOf clusters within
+told = tt
+
+says-none : (s : Sort) → classIn s ≡ neither → saysCluster s ≡ false
+says-none (ModernInitial m) e = absurd (omega (arith, ap classNumber e))
+says-none (OldInitial m) e = absurd (omega (arith, ap classNumber e))
+says-none InitialFiller e = refl
+says-none PeakFiller e = refl
+says-none (ModernPeak m) e = absurd (omega (arith, ap classNumber e))
+says-none (OldPeak m) e = absurd (omega (arith, ap classNumber e))
+says-none (ModernFinal m) e = absurd (omega (arith, ap classNumber e))
+says-none (OldFinal m) e = absurd (omega (arith, ap classNumber e))
+says-none Lv e = refl
+says-none Lvt e = refl
+says-none Other e = refl
+
+pub make-told : (c : ℕ) → saysCluster (sortOf c) ≡ listsSeveral c
+make-told c = test (hasRow c) (λ e. has-number c e (λ k is. row is)) outside
+  where
+    row : {k : ℕ} → Numbered c k → saysCluster (sortOf c) ≡ listsSeveral c
+    row {k} is =
+        alike-same _ _ (rw (is .code) at (every-at (λ n c. alike (saysCluster (sortOf c)) (listsSeveral c)) 0 rowCodes told k (number-in c is)))
+
+    outside : hasRow c ≡ false → saysCluster (sortOf c) ≡ listsSeveral c
+    outside e = says-none (sortOf c) (sort-is-class c ∙ sym (off-neither c e)) ∙ rw (letters-outside c e)
 
 -- ---- rows of document 01: its corrections, and clusters of three
 

@@ -18,7 +18,7 @@ use Rattle.letters.specs.Answers.{partsIn}
 use Rattle.letters.specs.declared.step.Parts.the-variants.{One as OnePart}
 use Rattle.letters.specs.declared.parts.Whole.{Whole}
 use Rattle.letters.specs.declared.parts.Whole.the-variants.{One, Two, Three}
-use Rattle.letters.proofs.Sorts.{sort-between}
+use Rattle.letters.proofs.Sorts.{class-between}
 use Rattle.letters.proofs.Steps.{syllable-below, syllable-most, step-other, by-step}
 use Rattle.letters.proofs.FullParts.{parts-one, parts-other, parts-lv, parts-lvt, Closed, full-append, full-closed, full-full, full-of-step, full-good, full-least}
 use Rattle.joining.specs.Joining.{join}
@@ -75,10 +75,10 @@ simple-of-most c = by-step c lv lvt (λ h. rw (simple-other c h) (omega (arith, 
     first : isSyllable c ≡ true → length (lettersOf (0x1100 + initialOf c)) ≤ 2
     first h =
         let m = syllable-most c h in
-        initial-most (0x1100 + initialOf c) (sym (sort-between 0x1100 0x1112 tt (omega arith) (omega arith)))
+        initial-most (0x1100 + initialOf c) (sym (class-between 0x1100 0x1112 tt (omega arith) (omega arith)))
 
     last : isSyllable c ≡ true → (finalOf c ≡ 0 → ⊥) → length (lettersOf (0x11A7 + finalOf c)) ≤ 2
-    last h e = final-most (0x11A7 + finalOf c) (sym (sort-between 0x11A8 0x11C2 tt (omega arith) (omega arith)))
+    last h e = final-most (0x11A7 + finalOf c) (sym (class-between 0x11A8 0x11C2 tt (omega arith) (omega arith)))
 
     lv : isSyllable c ≡ true → finalOf c ≡ 0 → length (each lettersOf (partsOf c)) ≤ 7
     lv h e = rw (parts-lv 0 c h e) (simp length-append (omega (arith, first h, letters-most (0x1161 + peakOf c))))

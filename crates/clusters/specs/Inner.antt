@@ -1,12 +1,15 @@
 -- What the functions that gather promise. In order: the spans in which a cluster is looked for
--- (`Covers`, `Spans`), what the search answers (`Searched`, `orZero`); gathering as a machine that
--- carries the letters not yet decided, and a step of it; joining after it, and the parts of each
--- code point before it, as one machine (`coded`); what is written with both states by value
+-- (`In`, `Covers`), what the search answers (`Searched`, `orZero`); gathering as a machine
+-- that carries the letters not yet decided, and a step of it; joining after it, and the parts of
+-- each code point before it, as one machine (`coded`); what is written with both states by value
 -- (`Joined`, `Turned`).
 use mathlib.Core.Path.{_≡_}
+use mathlib.Core.Logic.{_⊎_}
 use mathlib.Core.Option.{Option, none, some}
-use mathlib.Core.List.{List, [], _∷_}
+use mathlib.Core.List.{List, [], _∷_, _++_}
 use Prim.Native.Nat.{ℕ, _≤_, _<_}
+use lib.ListN.{length}
+use Rattle.laws.specs.Lists.{All}
 use Rattle.laws.specs.Machines.{Machine, chained, fed, outs, ends}
 use Rattle.joining.specs.Joining.{joiner}
 use Rattle.joining.specs.Answers.{emitted}
@@ -25,22 +28,30 @@ use Rattle.clusters.specs.declared.gathered.Writer.{Writer}
 
 -- ---- the search
 
--- every cluster that begins with the letter a stands in the span, and its second letter too
-pub record Covers (a : ℕ) (span : Span) : Type 0 where
-  pub low-code : (k b : ℕ) (x : List ℕ) → lettersOf k ≡ a ∷ b ∷ x → span .low ≤ k
-  pub high-code : (k b : ℕ) (x : List ℕ) → lettersOf k ≡ a ∷ b ∷ x → k < span .high
-  pub low-second : (k b : ℕ) (x : List ℕ) → lettersOf k ≡ a ∷ b ∷ x → span .low ≤ b
-  pub high-second : (k b : ℕ) (x : List ℕ) → lettersOf k ≡ a ∷ b ∷ x → b < span .high
+-- a code of the span: in 01's table, or among the letters outside it
+abbrev pub In : Span → ℕ → Type 0
+In span k = ((span .low ≤ k) × (k < span .high)) ⊎ ((span .outer ≤ k) × (k < span .end))
 
--- every cluster that begins with the letters a and b stands in the span
-pub record Spans (a b : ℕ) (span : Span) : Type 0 where
-  pub low-code : (k : ℕ) (x : List ℕ) → lettersOf k ≡ a ∷ b ∷ x → span .low ≤ k
-  pub high-code : (k : ℕ) (x : List ℕ) → lettersOf k ≡ a ∷ b ∷ x → k < span .high
+-- a letter in the part of the span that is in 01's table
+abbrev pub Letter : Span → ℕ → Type 0
+Letter span l = (span .low ≤ l) × (l < span .high)
 
--- r has the row, or it is 0 and no code of the span has it
-pub data Searched (row : Row) (low high r : ℕ) : Type 0 where
-  hit : rowBy r ≡ row → Searched row low high r
-  miss : r ≡ 0 → ((k : ℕ) → low ≤ k → k < high → rowBy k ≡ row → ⊥) → Searched row low high r
+-- every cluster that begins with these letters stands in the span, and so do the rest of its
+-- letters
+abbrev pub Covers : List ℕ → Span → Type 0
+Covers front span = (k : ℕ) (rest : List ℕ) → lettersOf k ≡ front ++ rest → 1 < length (lettersOf k) → In span k × All (Letter span) rest
+
+-- r has the row, or it is 0 and no code for which P holds has it
+pub data Searched (row : Row) (P : ℕ → Type 0) (r : ℕ) : Type 0 where
+  hit : rowBy r ≡ row → Searched row P r
+  miss : r ≡ 0 → ((k : ℕ) → P k → rowBy k ≡ row → ⊥) → Searched row P r
+
+-- of the codes from low on, before high; and of a whole span
+abbrev pub SearchedFrom : Row → ℕ → ℕ → ℕ → Type 0
+SearchedFrom row low high r = Searched row (λ k. (low ≤ k) × (k < high)) r
+
+abbrev pub SearchedIn : Row → Span → ℕ → Type 0
+SearchedIn row span r = Searched row (In span) r
 
 -- no cluster has the code 0, so that 0 can stand for none
 abbrev pub orZero : Option ℕ → ℕ

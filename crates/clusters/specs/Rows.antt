@@ -1,17 +1,41 @@
--- The table as the code has it: 768 numbers, and a row of them by value.
+-- The two tables as the code has them, one after the other: 1,071 numbers, and a row of them by
+-- value.
 use mathlib.Core.Path.{_≡_}
 use mathlib.Core.Bool.{cond}
-use mathlib.Core.List.{List, [], _∷_}
-use Prim.Native.Nat.{ℕ, _+_, _*_, _<_}
+use mathlib.Core.List.{List, [], _∷_, _++_}
+use Prim.Native.Nat.{ℕ, zero, suc}
 use lib.Dec.{eqb}
-use lib.ListN.{length, getD, take, drop}
+use lib.ListN.{getD}
+use Rattle.laws.specs.Lists.{each}
 use Rattle.clusters.specs.Table.{clusterRow}
 use Rattle.clusters.specs.declared.table.Row.{Row}
 
--- the table has the row of each code from 1100 to 11FF, in order
-pub record Rows (table : List ℕ) : Type 0 where
-  pub size : 768 ≡ length table
-  pub row : (k : ℕ) → k < 256 → take 3 (drop (3 * k) table) ≡ clusterRow (0x1100 + k)
+-- n numbers from lo on
+unfoldable pub numbersFrom : ℕ → ℕ → List ℕ
+numbersFrom lo zero = []
+numbersFrom lo (suc n) = lo ∷ numbersFrom (suc lo) n
+
+-- the codes of 01's table, 1100–11FF, and of the other, A960–A97C, D7B0–D7C6 and D7CB–D7FB
+abbrev pub tableCodes : List ℕ
+tableCodes = numbersFrom 0x1100 256
+
+abbrev pub extendedCodes : List ℕ
+extendedCodes = numbersFrom 0xA960 29 ++ (numbersFrom 0xD7B0 23 ++ numbersFrom 0xD7CB 49)
+
+-- and so the code of each row, by the row's number
+abbrev pub rowCodes : List ℕ
+rowCodes = tableCodes ++ extendedCodes
+
+abbrev pub rowCode : ℕ → ℕ
+rowCode k = getD rowCodes k 0
+
+-- the rows of codes, one after the other
+abbrev pub rowsOf : List ℕ → List ℕ
+rowsOf codes = each clusterRow codes
+
+-- both tables
+abbrev pub Rows : List ℕ → Type 0
+Rows table = table ≡ rowsOf rowCodes
 
 -- three numbers by value, and so the row of a code
 abbrev pub asRow : List ℕ → Row

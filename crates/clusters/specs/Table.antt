@@ -1,14 +1,16 @@
--- The clusters: document 01, 'Simple letters and clusters', and document 02, #102: each with its
--- two or three letters, which its character name gives; the letters of a code point, and 01's row
--- of three numbers. The lists stand in the order of source document 002, appendix 1: initials,
--- peaks, finals, each by their codes.
+-- The clusters: document 01, 'Simple letters and clusters', and document 02, #102 and #106: each
+-- with its two or three letters, which its character name gives; the letters of a code point, and
+-- 01's row of three numbers. The first six lists stand in the order of source document 002,
+-- appendix 1: initials, peaks, finals, each by their codes. The letters of Unicode 5.2, which it
+-- does not have, follow in the same order.
 use mathlib.Core.Path.{_≡_}
-use mathlib.Core.Bool.{cond}
+use mathlib.Core.Bool.{Bool, true, cond, _||_}
 use mathlib.Core.List.{List, [], _∷_, _++_}
-use Prim.Native.Nat.{ℕ, _≤_, _<_}
+use Prim.Native.Nat.{ℕ, _<_}
 use lib.Dec.{eqb}
 use lib.ListN.{length, take}
 use Rattle.laws.specs.Lists.{All}
+use Rattle.laws.specs.Ranges.{within}
 use Rattle.letters.specs.Sorts.{sortOf}
 use Rattle.letters.specs.declared.sort.Sort.{Sort}
 use Rattle.letters.specs.declared.sort.Sort.the-variants.{ModernInitial, OldInitial, InitialFiller, PeakFiller, ModernPeak, OldPeak, ModernFinal, OldFinal, Lv, Lvt, Other}
@@ -83,9 +85,63 @@ oldFinals =
     ∷ two 0x11EE 0x11BC 0x11BC ∷ two 0x11EF 0x11BC 0x11BF ∷ two 0x11F1 0x11F0 0x11BA ∷ two 0x11F2 0x11F0 0x11EB ∷ two 0x11F3 0x11C1 0x11B8
     ∷ two 0x11F4 0x11C1 0x11BC ∷ two 0x11F5 0x11C2 0x11AB ∷ two 0x11F6 0x11C2 0x11AF ∷ two 0x11F7 0x11C2 0x11B7 ∷ two 0x11F8 0x11C2 0x11B8 ∷ []
 
--- THE CLUSTERS, 187
+-- 5 initials of Unicode 5.2
+abbrev pub addedInitials : List Cluster
+addedInitials =
+    two 0x115A 0x1100 0x1103 ∷ two 0x115B 0x1102 0x1109 ∷ two 0x115C 0x1102 0x110C ∷ two 0x115D 0x1102 0x1112 ∷ two 0x115E 0x1103 0x1105 ∷ []
+
+-- 5 peaks of Unicode 5.2
+abbrev pub addedPeaks : List Cluster
+addedPeaks =
+    two 0x11A3 0x1161 0x1173 ∷ two 0x11A4 0x1163 0x116E ∷ two 0x11A5 0x1167 0x1163 ∷ two 0x11A6 0x1169 0x1163 ∷ three 0x11A7 0x1169 0x1163 0x1175 ∷ []
+
+-- 6 finals of Unicode 5.2
+abbrev pub addedFinals : List Cluster
+addedFinals =
+    two 0x11FA 0x11A8 0x11AB ∷ two 0x11FB 0x11A8 0x11B8 ∷ two 0x11FC 0x11A8 0x11BE ∷ two 0x11FD 0x11A8 0x11BF ∷ two 0x11FE 0x11A8 0x11C2
+    ∷ two 0x11FF 0x11AB 0x11AB ∷ []
+
+-- 29 initials of Unicode 5.2, in the block Hangul Jamo Extended-A
+abbrev pub extendedInitials : List Cluster
+extendedInitials =
+    two 0xA960 0x1103 0x1106 ∷ two 0xA961 0x1103 0x1107 ∷ two 0xA962 0x1103 0x1109 ∷ two 0xA963 0x1103 0x110C ∷ two 0xA964 0x1105 0x1100
+    ∷ three 0xA965 0x1105 0x1100 0x1100 ∷ two 0xA966 0x1105 0x1103 ∷ three 0xA967 0x1105 0x1103 0x1103 ∷ two 0xA968 0x1105 0x1106
+    ∷ two 0xA969 0x1105 0x1107 ∷ three 0xA96A 0x1105 0x1107 0x1107 ∷ three 0xA96B 0x1105 0x1107 0x110B ∷ two 0xA96C 0x1105 0x1109
+    ∷ two 0xA96D 0x1105 0x110C ∷ two 0xA96E 0x1105 0x110F ∷ two 0xA96F 0x1106 0x1100 ∷ two 0xA970 0x1106 0x1103 ∷ two 0xA971 0x1106 0x1109
+    ∷ three 0xA972 0x1107 0x1109 0x1110 ∷ two 0xA973 0x1107 0x110F ∷ two 0xA974 0x1107 0x1112 ∷ three 0xA975 0x1109 0x1109 0x1107
+    ∷ two 0xA976 0x110B 0x1105 ∷ two 0xA977 0x110B 0x1112 ∷ three 0xA978 0x110C 0x110C 0x1112 ∷ two 0xA979 0x1110 0x1110 ∷ two 0xA97A 0x1111 0x1112
+    ∷ two 0xA97B 0x1112 0x1109 ∷ two 0xA97C 0x1159 0x1159 ∷ []
+
+-- 23 peaks of Unicode 5.2, in the block Hangul Jamo Extended-B
+abbrev pub extendedPeaks : List Cluster
+extendedPeaks =
+    two 0xD7B0 0x1169 0x1167 ∷ three 0xD7B1 0x1169 0x1169 0x1175 ∷ two 0xD7B2 0x116D 0x1161 ∷ three 0xD7B3 0x116D 0x1161 0x1175
+    ∷ two 0xD7B4 0x116D 0x1165 ∷ two 0xD7B5 0x116E 0x1167 ∷ three 0xD7B6 0x116E 0x1175 0x1175 ∷ three 0xD7B7 0x1172 0x1161 0x1175
+    ∷ two 0xD7B8 0x1172 0x1169 ∷ two 0xD7B9 0x1173 0x1161 ∷ two 0xD7BA 0x1173 0x1165 ∷ three 0xD7BB 0x1173 0x1165 0x1175 ∷ two 0xD7BC 0x1173 0x1169
+    ∷ three 0xD7BD 0x1175 0x1163 0x1169 ∷ three 0xD7BE 0x1175 0x1163 0x1175 ∷ two 0xD7BF 0x1175 0x1167 ∷ three 0xD7C0 0x1175 0x1167 0x1175
+    ∷ three 0xD7C1 0x1175 0x1169 0x1175 ∷ two 0xD7C2 0x1175 0x116D ∷ two 0xD7C3 0x1175 0x1172 ∷ two 0xD7C4 0x1175 0x1175 ∷ two 0xD7C5 0x119E 0x1161
+    ∷ three 0xD7C6 0x119E 0x1165 0x1175 ∷ []
+
+-- 49 finals of Unicode 5.2, in the block Hangul Jamo Extended-B
+abbrev pub extendedFinals : List Cluster
+extendedFinals =
+    two 0xD7CB 0x11AB 0x11AF ∷ two 0xD7CC 0x11AB 0x11BE ∷ two 0xD7CD 0x11AE 0x11AE ∷ three 0xD7CE 0x11AE 0x11AE 0x11B8 ∷ two 0xD7CF 0x11AE 0x11B8
+    ∷ two 0xD7D0 0x11AE 0x11BA ∷ three 0xD7D1 0x11AE 0x11BA 0x11A8 ∷ two 0xD7D2 0x11AE 0x11BD ∷ two 0xD7D3 0x11AE 0x11BE ∷ two 0xD7D4 0x11AE 0x11C0
+    ∷ three 0xD7D5 0x11AF 0x11A8 0x11A8 ∷ three 0xD7D6 0x11AF 0x11A8 0x11C2 ∷ three 0xD7D7 0x11AF 0x11AF 0x11BF ∷ three 0xD7D8 0x11AF 0x11B7 0x11C2
+    ∷ three 0xD7D9 0x11AF 0x11B8 0x11AE ∷ three 0xD7DA 0x11AF 0x11B8 0x11C1 ∷ two 0xD7DB 0x11AF 0x11F0 ∷ three 0xD7DC 0x11AF 0x11F9 0x11C2
+    ∷ two 0xD7DD 0x11AF 0x11BC ∷ two 0xD7DE 0x11B7 0x11AB ∷ three 0xD7DF 0x11B7 0x11AB 0x11AB ∷ two 0xD7E0 0x11B7 0x11B7
+    ∷ three 0xD7E1 0x11B7 0x11B8 0x11BA ∷ two 0xD7E2 0x11B7 0x11BD ∷ two 0xD7E3 0x11B8 0x11AE ∷ three 0xD7E4 0x11B8 0x11AF 0x11C1
+    ∷ two 0xD7E5 0x11B8 0x11B7 ∷ two 0xD7E6 0x11B8 0x11B8 ∷ three 0xD7E7 0x11B8 0x11BA 0x11AE ∷ two 0xD7E8 0x11B8 0x11BD ∷ two 0xD7E9 0x11B8 0x11BE
+    ∷ two 0xD7EA 0x11BA 0x11B7 ∷ three 0xD7EB 0x11BA 0x11B8 0x11BC ∷ three 0xD7EC 0x11BA 0x11BA 0x11A8 ∷ three 0xD7ED 0x11BA 0x11BA 0x11AE
+    ∷ two 0xD7EE 0x11BA 0x11EB ∷ two 0xD7EF 0x11BA 0x11BD ∷ two 0xD7F0 0x11BA 0x11BE ∷ two 0xD7F1 0x11BA 0x11C0 ∷ two 0xD7F2 0x11BA 0x11C2
+    ∷ two 0xD7F3 0x11EB 0x11B8 ∷ three 0xD7F4 0x11EB 0x11B8 0x11BC ∷ two 0xD7F5 0x11F0 0x11B7 ∷ two 0xD7F6 0x11F0 0x11C2 ∷ two 0xD7F7 0x11BD 0x11B8
+    ∷ three 0xD7F8 0x11BD 0x11B8 0x11B8 ∷ two 0xD7F9 0x11BD 0x11BD ∷ two 0xD7FA 0x11C1 0x11BA ∷ two 0xD7FB 0x11C1 0x11C0 ∷ []
+
+-- THE CLUSTERS, 304
 unfoldable pub clusters : List Cluster
-clusters = modernInitials ++ (oldInitials ++ (modernPeaks ++ (oldPeaks ++ (modernFinals ++ oldFinals))))
+clusters =
+    modernInitials ++ (oldInitials ++ (modernPeaks ++ (oldPeaks ++ (modernFinals ++ (oldFinals
+    ++ (addedInitials ++ (addedPeaks ++ (addedFinals ++ (extendedInitials ++ (extendedPeaks ++ extendedFinals))))))))))
 
 abbrev pub clusterCode : Cluster → ℕ
 clusterCode (two k a b) = k
@@ -103,6 +159,11 @@ lettersFrom (k ∷ ks) c = cond (eqb (clusterCode k) c) (lettersIn k) (lettersFr
 unfoldable pub lettersOf : ℕ → List ℕ
 lettersOf c = lettersFrom clusters c
 
+-- the codes that have a row: those of 01's table, and the letters outside it, which have a table of
+-- their own
+unfoldable pub hasRow : ℕ → Bool
+hasRow c = within 0x1100 0x11FF c || (within 0xA960 0xA97C c || (within 0xD7B0 0xD7C6 c || within 0xD7CB 0xD7FB c))
+
 -- 01's row of three numbers, with a 0 if there are fewer letters
 abbrev pub clusterRow : ℕ → List ℕ
 clusterRow c = take 3 (lettersOf c ++ (0 ∷ 0 ∷ []))
@@ -117,14 +178,14 @@ pub data Place : Type 0 where
   nowhere : Place
 
 abbrev pub placeAs : Sort → Place
-placeAs ModernInitial = initial
-placeAs OldInitial = initial
+placeAs (ModernInitial m) = initial
+placeAs (OldInitial m) = initial
 placeAs InitialFiller = nowhere
 placeAs PeakFiller = nowhere
-placeAs ModernPeak = peak
-placeAs OldPeak = peak
-placeAs ModernFinal = final
-placeAs OldFinal = final
+placeAs (ModernPeak m) = peak
+placeAs (OldPeak m) = peak
+placeAs (ModernFinal m) = final
+placeAs (OldFinal m) = final
 placeAs Lv = nowhere
 placeAs Lvt = nowhere
 placeAs Other = nowhere
@@ -132,15 +193,15 @@ placeAs Other = nowhere
 abbrev pub placeOf : ℕ → Place
 placeOf c = placeAs (sortOf c)
 
--- THE RULE of a row of the table: the letters of a cluster's row are of one place (initial, peak,
--- final), the cluster's own; each letter's own row is that letter alone; no other row is equal to
--- it
+-- THE RULE of a row of either table: the letters of a cluster's row are of one place (initial,
+-- peak, final), the cluster's own; each letter's own row is that letter alone; no other row is
+-- equal to it
 pub record Rule (c : ℕ) : Type 0 where
   pub placed : 1 < length (lettersOf c) → All (λ l. placeOf l ≡ nowhere → ⊥) (lettersOf c)
   pub one-place : All (λ l. placeOf l ≡ placeOf c) (lettersOf c)
   pub alone : All (λ l. lettersOf l ≡ l ∷ []) (lettersOf c)
-  pub distinct : (d : ℕ) → 0x1100 ≤ d → d ≤ 0x11FF → clusterRow c ≡ clusterRow d → c ≡ d
+  pub distinct : (d : ℕ) → hasRow d ≡ true → clusterRow c ≡ clusterRow d → c ≡ d
 
--- of every row
+-- of every row of both tables together
 abbrev pub TableRule : Type 0
-TableRule = (c : ℕ) → 0x1100 ≤ c → c ≤ 0x11FF → Rule c
+TableRule = (c : ℕ) → hasRow c ≡ true → Rule c

@@ -1,6 +1,7 @@
 // Gathered form: the letters of a text gathered into clusters, then joined, in one pass into a lent
 // buffer.
 use crate::gather::Pending;
+use crate::table::Cell;
 use answers::Checked;
 use answers::Filled;
 use answers::Refusal;
@@ -60,7 +61,7 @@ fn put_codes(writer: Writer, codes: Emitted, out: &mut [u32]) -> Writer
 }
 
 // A letter is gathered, and the joiner takes what that gives.
-fn put_letter(writer: Writer, letter: u32, table: &[u16], out: &mut [u32]) -> Writer
+fn put_letter(writer: Writer, letter: u32, table: &[Cell], out: &mut [u32]) -> Writer
     requires { ⌜ Rows (now table) ⌝ }
     requires { ⌜ TurnRoom writer (letter ∷ []) (now out) ⌝ }
     ensures { λ r. ⌜ Turned writer (letter ∷ []) (now (out .entry)) r (now (out .exit)) ⌝ }
@@ -83,7 +84,7 @@ fn put_letters(
     before: Writer,
     letters: &[u32],
     count: usize,
-    table: &[u16],
+    table: &[Cell],
     out: &mut [u32],
 ) -> Writer
     requires { ⌜ count ≤ length (now letters) ⌝ }
@@ -101,7 +102,7 @@ fn put_letters(
 }
 
 // A code point: its letters, seven at most, are gathered one after the other.
-fn put_gathered(writer: Writer, code: u32, table: &[u16], out: &mut [u32]) -> Writer
+fn put_gathered(writer: Writer, code: u32, table: &[Cell], out: &mut [u32]) -> Writer
     requires { ⌜ Rows (now table) ⌝ }
     requires { ⌜ TurnRoom writer (simpleOf code) (now out) ⌝ }
     ensures { λ r. ⌜ Turned writer (simpleOf code) (now (out .entry)) r (now (out .exit)) ⌝ }
@@ -111,7 +112,7 @@ fn put_gathered(writer: Writer, code: u32, table: &[u16], out: &mut [u32]) -> Wr
 }
 
 // What is still open at the end of a text: in the gatherer, and then in the joiner.
-fn put_rest(writer: Writer, table: &[u16], out: &mut [u32]) -> usize
+fn put_rest(writer: Writer, table: &[Cell], out: &mut [u32]) -> usize
     requires { ⌜ Rows (now table) ⌝ }
     requires { ⌜ RestRoom writer (now out) ⌝ }
     ensures { λ r. ⌜ Wrote (now (out .entry)) (writer .at) (machine .flush (stateOf writer)) r (now (out .exit)) ⌝ }
@@ -135,7 +136,7 @@ fn writer_at(at: usize) -> Writer
 }
 
 // Writes the gathered form of a text to the front of `out`, which has room for it.
-fn gathered_into(text: &[u32], table: &[u16], out: &mut [u32]) -> usize
+fn gathered_into(text: &[u32], table: &[Cell], out: &mut [u32]) -> usize
     requires { ⌜ Rows (now table) ⌝ }
     requires { ⌜ length (gathered (now text)) ≤ length (now out) ⌝ }
     ensures { λ r. ⌜ Fronts (gathered (now (text .entry))) (now (out .entry)) r (now (out .exit)) ⌝ }
@@ -151,7 +152,7 @@ fn gathered_into(text: &[u32], table: &[u16], out: &mut [u32]) -> usize
 
 // How long the gathered form is: what each code point gives, fourteen at most, is written to the
 // same place.
-fn gathered_count(text: &[u32], table: &[u16]) -> usize
+fn gathered_count(text: &[u32], table: &[Cell]) -> usize
     requires { ⌜ length (now text) ≤ 16384 ⌝ }
     requires { ⌜ Rows (now table) ⌝ }
     ensures { λ r. ⌜ r ≡ length (gathered (now (text .entry))) ⌝ }
@@ -177,7 +178,7 @@ fn gathered_count(text: &[u32], table: &[u16]) -> usize
 
 // 0 if `room` is enough, else the length needed. Seven for each code point are always enough, and
 // then nothing is counted.
-fn gathered_lacking(text: &[u32], table: &[u16], room: usize) -> usize
+fn gathered_lacking(text: &[u32], table: &[Cell], room: usize) -> usize
     requires { ⌜ length (now text) ≤ 16384 ⌝ }
     requires { ⌜ Rows (now table) ⌝ }
     ensures { λ r. ⌜ r ≡ lacking room (length (gathered (now (text .entry)))) ⌝ }

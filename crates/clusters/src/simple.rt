@@ -1,5 +1,6 @@
 // Simple form: full parts, then each code replaced by the letters of its row (document 01, 'Simple
 // letters and clusters').
+use crate::table::Cell;
 use crate::table::Row;
 use answers::Checked;
 use answers::Filled;
@@ -33,7 +34,7 @@ fn put_row(row: Row, out: &mut [u32], at: usize) -> usize
 }
 
 // Writes the letters of one part of a code point: those of its row.
-fn put_part(part: u32, table: &[u16], out: &mut [u32], at: usize) -> usize
+fn put_part(part: u32, table: &[Cell], out: &mut [u32], at: usize) -> usize
     requires { ⌜ Rows (now table) ⌝ }
     requires { ⌜ Room (now out) at (lettersOf part) ⌝ }
     ensures { λ r. ⌜ Wrote (now (out .entry)) at (lettersOf part) r (now (out .exit)) ⌝ }
@@ -42,7 +43,7 @@ fn put_part(part: u32, table: &[u16], out: &mut [u32], at: usize) -> usize
 }
 
 // Writes the simple form of one code point: the letters of each of its full parts.
-fn put_simple(code: u32, table: &[u16], out: &mut [u32], at: usize) -> usize
+fn put_simple(code: u32, table: &[Cell], out: &mut [u32], at: usize) -> usize
     requires { ⌜ Rows (now table) ⌝ }
     requires { ⌜ Room (now out) at (simpleOf code) ⌝ }
     ensures { λ r. ⌜ Wrote (now (out .entry)) at (simpleOf code) r (now (out .exit)) ⌝ }
@@ -69,7 +70,7 @@ pub(crate) struct Letters {
 }
 
 // The letters of a code point by value.
-pub(crate) fn letters_of(code: u32, table: &[u16]) -> Letters
+pub(crate) fn letters_of(code: u32, table: &[Cell]) -> Letters
     requires { ⌜ Rows (now table) ⌝ }
     ensures { λ r. ⌜ Wrote (replicate 7 0) 0 (simpleOf code) (r .count) (r .codes) ⌝ }
 {
@@ -82,7 +83,7 @@ pub(crate) fn letters_of(code: u32, table: &[u16]) -> Letters
 }
 
 // Writes the simple form of a text to the front of `out`, which has room for it.
-fn simple_into(text: &[u32], table: &[u16], out: &mut [u32]) -> usize
+fn simple_into(text: &[u32], table: &[Cell], out: &mut [u32]) -> usize
     requires { ⌜ Rows (now table) ⌝ }
     requires { ⌜ length (simple (now text)) ≤ length (now out) ⌝ }
     ensures { λ r. ⌜ Fronts (simple (now (text .entry))) (now (out .entry)) r (now (out .exit)) ⌝ }
@@ -97,7 +98,7 @@ fn simple_into(text: &[u32], table: &[u16], out: &mut [u32]) -> usize
 }
 
 // How long the simple form is.
-fn simple_count(text: &[u32], table: &[u16]) -> usize
+fn simple_count(text: &[u32], table: &[Cell]) -> usize
     requires { ⌜ length (now text) ≤ 16384 ⌝ }
     requires { ⌜ Rows (now table) ⌝ }
     ensures { λ r. ⌜ r ≡ length (simple (now (text .entry))) ⌝ }
@@ -114,7 +115,7 @@ fn simple_count(text: &[u32], table: &[u16]) -> usize
 
 // 0 if `room` is enough, else the length needed. Seven for each code point are always enough, and
 // then nothing is counted.
-fn simple_lacking(text: &[u32], table: &[u16], room: usize) -> usize
+fn simple_lacking(text: &[u32], table: &[Cell], room: usize) -> usize
     requires { ⌜ length (now text) ≤ 16384 ⌝ }
     requires { ⌜ Rows (now table) ⌝ }
     ensures { λ r. ⌜ r ≡ lacking room (length (simple (now (text .entry)))) ⌝ }

@@ -1,8 +1,13 @@
-// The table of clusters, 256 rows of three numbers, and the row of a code (document 01, 'Simple
-// letters and clusters').
+// The two tables of clusters, 256 and 101 rows of three numbers, and the row of a code (document
+// 01, 'Simple letters and clusters'; document 02, #106).
 ghost use mathlib.Core.Path.{_≡_};
-ghost use Rattle.clusters.specs.Rows.{rowBy, Rows};
+ghost use Prim.Native.Nat.{_≤_, _<_};
+ghost use Rattle.laws.specs.Writing.{front};
+ghost use Rattle.clusters.specs.Rows.{tableCodes, extendedCodes, rowCode, rowsOf, Rows, rowBy};
 ghost use lib.ListN.{length};
+
+// A number of a table.
+pub(crate) type Cell = u16;
 
 // A row: the first letter, and the second and third or 0.
 pub(crate) struct Row {
@@ -11,20 +16,30 @@ pub(crate) struct Row {
     pub third: u32,
 }
 
-// The row of a code; one that the table does not have is alone.
-pub(crate) fn row_at(table: &[u16], code: u32) -> Row
+// The row of this number, of 357.
+fn row_of(table: &[Cell], number: usize) -> Row
+    requires { ⌜ Rows (now table) ⌝ }
+    requires { ⌜ number < 357 ⌝ }
+    ensures { λ r. ⌜ r ≡ rowBy (rowCode number) ⌝ }
+{
+    let at = 3 * number;
+    Row {
+        first: table[at] as u32,
+        second: table[at + 1] as u32,
+        third: table[at + 2] as u32,
+    }
+}
+
+// The row of a code; one that has no row is alone.
+pub(crate) fn row_at(table: &[Cell], code: u32) -> Row
     requires { ⌜ Rows (now table) ⌝ }
     ensures { λ r. ⌜ r ≡ rowBy code ⌝ }
 {
     match code {
-        0x1100..=0x11FF => {
-            let at = 3 * (code - 0x1100) as usize;
-            Row {
-                first: table[at] as u32,
-                second: table[at + 1] as u32,
-                third: table[at + 2] as u32,
-            }
-        }
+        0x1100..=0x11FF => row_of(table, (code - 0x1100) as usize),
+        0xA960..=0xA97C => row_of(table, 256 + (code - 0xA960) as usize),
+        0xD7B0..=0xD7C6 => row_of(table, 285 + (code - 0xD7B0) as usize),
+        0xD7CB..=0xD7FB => row_of(table, 308 + (code - 0xD7CB) as usize),
         _ => Row {
             first: code,
             second: 0,
@@ -35,7 +50,7 @@ pub(crate) fn row_at(table: &[u16], code: u32) -> Row
 
 // Of a cluster its letters, of any other code itself; 0 if there are fewer. Laid out by hand, a
 // row a line: `rt fmt` would give each number a line.
-const TABLE: [u16; 768] = [
+const TABLE: [Cell; 768] = [
     0x1100, 0, 0,
     0x1100, 0x1100, 0,
     0x1102, 0, 0,
@@ -126,11 +141,11 @@ const TABLE: [u16; 768] = [
     0x1111, 0x110B, 0,
     0x1112, 0x1112, 0,
     0x1159, 0, 0,
-    0x115A, 0, 0,
-    0x115B, 0, 0,
-    0x115C, 0, 0,
-    0x115D, 0, 0,
-    0x115E, 0, 0,
+    0x1100, 0x1103, 0,
+    0x1102, 0x1109, 0,
+    0x1102, 0x110C, 0,
+    0x1102, 0x1112, 0,
+    0x1103, 0x1105, 0,
     0x115F, 0, 0,
     0x1160, 0, 0,
     0x1161, 0, 0,
@@ -199,11 +214,11 @@ const TABLE: [u16; 768] = [
     0x119E, 0x116E, 0,
     0x119E, 0x1175, 0,
     0x119E, 0x119E, 0,
-    0x11A3, 0, 0,
-    0x11A4, 0, 0,
-    0x11A5, 0, 0,
-    0x11A6, 0, 0,
-    0x11A7, 0, 0,
+    0x1161, 0x1173, 0,
+    0x1163, 0x116E, 0,
+    0x1167, 0x1163, 0,
+    0x1169, 0x1163, 0,
+    0x1169, 0x1163, 0x1175,
     0x11A8, 0, 0,
     0x11A8, 0x11A8, 0,
     0x11A8, 0x11BA, 0,
@@ -286,19 +301,157 @@ const TABLE: [u16; 768] = [
     0x11C2, 0x11B7, 0,
     0x11C2, 0x11B8, 0,
     0x11F9, 0, 0,
-    0x11FA, 0, 0,
-    0x11FB, 0, 0,
-    0x11FC, 0, 0,
-    0x11FD, 0, 0,
-    0x11FE, 0, 0,
-    0x11FF, 0, 0,
+    0x11A8, 0x11AB, 0,
+    0x11A8, 0x11B8, 0,
+    0x11A8, 0x11BE, 0,
+    0x11A8, 0x11BF, 0,
+    0x11A8, 0x11C2, 0,
+    0x11AB, 0x11AB, 0,
 ];
 
-// The table. A call takes it once and lends it on, since each use of the constant puts the whole
-// table on the stack.
-pub(crate) fn table() -> [u16; 768]
+// The same of the letters outside 1100-11FF: A960-A97C, D7B0-D7C6 and D7CB-D7FB.
+const EXTENDED: [Cell; 303] = [
+    0x1103, 0x1106, 0,
+    0x1103, 0x1107, 0,
+    0x1103, 0x1109, 0,
+    0x1103, 0x110C, 0,
+    0x1105, 0x1100, 0,
+    0x1105, 0x1100, 0x1100,
+    0x1105, 0x1103, 0,
+    0x1105, 0x1103, 0x1103,
+    0x1105, 0x1106, 0,
+    0x1105, 0x1107, 0,
+    0x1105, 0x1107, 0x1107,
+    0x1105, 0x1107, 0x110B,
+    0x1105, 0x1109, 0,
+    0x1105, 0x110C, 0,
+    0x1105, 0x110F, 0,
+    0x1106, 0x1100, 0,
+    0x1106, 0x1103, 0,
+    0x1106, 0x1109, 0,
+    0x1107, 0x1109, 0x1110,
+    0x1107, 0x110F, 0,
+    0x1107, 0x1112, 0,
+    0x1109, 0x1109, 0x1107,
+    0x110B, 0x1105, 0,
+    0x110B, 0x1112, 0,
+    0x110C, 0x110C, 0x1112,
+    0x1110, 0x1110, 0,
+    0x1111, 0x1112, 0,
+    0x1112, 0x1109, 0,
+    0x1159, 0x1159, 0,
+    0x1169, 0x1167, 0,
+    0x1169, 0x1169, 0x1175,
+    0x116D, 0x1161, 0,
+    0x116D, 0x1161, 0x1175,
+    0x116D, 0x1165, 0,
+    0x116E, 0x1167, 0,
+    0x116E, 0x1175, 0x1175,
+    0x1172, 0x1161, 0x1175,
+    0x1172, 0x1169, 0,
+    0x1173, 0x1161, 0,
+    0x1173, 0x1165, 0,
+    0x1173, 0x1165, 0x1175,
+    0x1173, 0x1169, 0,
+    0x1175, 0x1163, 0x1169,
+    0x1175, 0x1163, 0x1175,
+    0x1175, 0x1167, 0,
+    0x1175, 0x1167, 0x1175,
+    0x1175, 0x1169, 0x1175,
+    0x1175, 0x116D, 0,
+    0x1175, 0x1172, 0,
+    0x1175, 0x1175, 0,
+    0x119E, 0x1161, 0,
+    0x119E, 0x1165, 0x1175,
+    0x11AB, 0x11AF, 0,
+    0x11AB, 0x11BE, 0,
+    0x11AE, 0x11AE, 0,
+    0x11AE, 0x11AE, 0x11B8,
+    0x11AE, 0x11B8, 0,
+    0x11AE, 0x11BA, 0,
+    0x11AE, 0x11BA, 0x11A8,
+    0x11AE, 0x11BD, 0,
+    0x11AE, 0x11BE, 0,
+    0x11AE, 0x11C0, 0,
+    0x11AF, 0x11A8, 0x11A8,
+    0x11AF, 0x11A8, 0x11C2,
+    0x11AF, 0x11AF, 0x11BF,
+    0x11AF, 0x11B7, 0x11C2,
+    0x11AF, 0x11B8, 0x11AE,
+    0x11AF, 0x11B8, 0x11C1,
+    0x11AF, 0x11F0, 0,
+    0x11AF, 0x11F9, 0x11C2,
+    0x11AF, 0x11BC, 0,
+    0x11B7, 0x11AB, 0,
+    0x11B7, 0x11AB, 0x11AB,
+    0x11B7, 0x11B7, 0,
+    0x11B7, 0x11B8, 0x11BA,
+    0x11B7, 0x11BD, 0,
+    0x11B8, 0x11AE, 0,
+    0x11B8, 0x11AF, 0x11C1,
+    0x11B8, 0x11B7, 0,
+    0x11B8, 0x11B8, 0,
+    0x11B8, 0x11BA, 0x11AE,
+    0x11B8, 0x11BD, 0,
+    0x11B8, 0x11BE, 0,
+    0x11BA, 0x11B7, 0,
+    0x11BA, 0x11B8, 0x11BC,
+    0x11BA, 0x11BA, 0x11A8,
+    0x11BA, 0x11BA, 0x11AE,
+    0x11BA, 0x11EB, 0,
+    0x11BA, 0x11BD, 0,
+    0x11BA, 0x11BE, 0,
+    0x11BA, 0x11C0, 0,
+    0x11BA, 0x11C2, 0,
+    0x11EB, 0x11B8, 0,
+    0x11EB, 0x11B8, 0x11BC,
+    0x11F0, 0x11B7, 0,
+    0x11F0, 0x11C2, 0,
+    0x11BD, 0x11B8, 0,
+    0x11BD, 0x11B8, 0x11B8,
+    0x11BD, 0x11BD, 0,
+    0x11C1, 0x11BA, 0,
+    0x11C1, 0x11C0, 0,
+];
+
+// The rows of 1100-11FF.
+fn table_rows() -> [Cell; 768]
     ensures { λ r. ⌜ 768 ≡ length r ⌝ }
-    ensures { λ r. ⌜ Rows r ⌝ }
+    ensures { λ r. ⌜ r ≡ rowsOf tableCodes ⌝ }
 {
     TABLE
+}
+
+// The rows of the letters outside.
+fn extended_rows() -> [Cell; 303]
+    ensures { λ r. ⌜ 303 ≡ length r ⌝ }
+    ensures { λ r. ⌜ r ≡ rowsOf extendedCodes ⌝ }
+{
+    EXTENDED
+}
+
+// Copies all rows to the front of `out`, which has room for them.
+fn copy(rows: &[Cell], out: &mut [Cell])
+    requires { ⌜ length (now rows) ≤ length (now out) ⌝ }
+    ensures { λ r. ⌜ now (out .exit) ≡ front (now (rows .entry)) (now (out .entry)) ⌝ }
+{
+    let mut at = 0;
+    while at < rows.len() {
+        out[at] = rows[at];
+        at += 1;
+    }
+}
+
+// Both tables, one after the other. A call takes them once and lends them on, since each use of a
+// constant puts the whole of it on the stack.
+pub(crate) fn table() -> [Cell; 1071]
+    ensures { λ r. ⌜ 1071 ≡ length r ⌝ }
+    ensures { λ r. ⌜ Rows r ⌝ }
+{
+    let first = table_rows();
+    let second = extended_rows();
+    let mut both = [0u16; 1071];
+    copy(&first, &mut both);
+    copy(&second, &mut both[768..]);
+    both
 }

@@ -15,7 +15,7 @@ use Rattle.laws.specs.Ranges.{within}
 use Rattle.answers.specs.Checks.{Check, passes, refuses, inOrder, overLimit, bad, badCodePoint, takesText, takesBytes, takesUnits}
 use Rattle.answers.specs.Verdicts.{Verdict, done, verdict, after, fits, Fills}
 use Rattle.answers.proofs.Checks.{no-room-passes}
-use Rattle.letters.specs.Sorts.{sortOf}
+use Rattle.letters.specs.Sorts.{classOf, makeOf, sortOf}
 use Rattle.letters.specs.Syllables.{isSyllable, oneStep, partsTo, fullParts}
 use Rattle.joining.specs.Roles.{roleOf, pair}
 use Rattle.joining.specs.Joining.{opens, join}
@@ -108,7 +108,7 @@ all-hold (r ∷ rows) h =
     also (gives (r .call) (ap (λ p. p .0) (h .0)) (leb-true (length (whole (r .call))) 64 (ap (λ p. p .1) (h .0)))) (all-hold rows (h .1))
 
 pub cases : Cases
-unfolding table each within overLimit bad firstWhere badCodePoint takesText takesUnits sortOf isSyllable oneStep partsTo roleOf pair opens
+unfolding table each within overLimit bad firstWhere badCodePoint takesText takesUnits sortOf classOf makeOf isSyllable oneStep partsTo roleOf pair opens
     rowIn initials peaks finals prefix nameBy named namedFrom noSyllable clusters
     lettersOf simple twoOf threeOf clustered gathered pairs asInitial asPeak asFinal groupOf turned
 cases =

@@ -22,8 +22,11 @@ use Rattle.labels.specs.Images.{overImage, noRecord, takesRecord, takesWriting}
 use Rattle.demands.specs.Sentences.{LettersCounted, Ac0c, OnlyByLength, TrueFffd, NumbersFirst, BeginningFirst, JudgedAlone, NothingStoredJudged}
 
 pub letters-counted : LettersCounted
-letters-counted =
-    (omega (arith, modern-initials, old-initials), omega (arith, modern-peaks, old-peaks), omega (arith, modern-finals, old-finals))
+letters-counted = (
+  omega (arith, modern-initials .0, modern-initials .1, old-initials .0, old-initials .1),
+  omega (arith, modern-peaks .0, modern-peaks .1, old-peaks .0, old-peaks .1),
+  omega (arith, modern-finals .0, modern-finals .1, old-finals .0, old-finals .1),
+)
 
 pub ac0c : Ac0c
 unfolding each partsTo oneStep isSyllable within

@@ -7,6 +7,9 @@ use Prim.Native.Nat.{ℕ, _+_}
 use lib.ListN.{length}
 use Rattle.answers.specs.Checks.{refuses, takesBytes}
 use Rattle.answers.specs.Verdicts.{fits}
+use Rattle.letters.specs.declared.sort.Make.{Make}
+use Rattle.letters.specs.declared.sort.Make.the-variants.{Simple, Cluster}
+use Rattle.letters.specs.declared.sort.Sort.{Sort}
 use Rattle.letters.specs.declared.sort.Sort.the-variants.{ModernInitial, OldInitial, ModernPeak, OldPeak, ModernFinal, OldFinal}
 use Rattle.letters.specs.Syllables.{fullParts}
 use Rattle.letters.specs.Sorts.{howMany}
@@ -17,12 +20,17 @@ use Rattle.ranking.specs.declared.order.Order.the-variants.{Before}
 use Rattle.labels.specs.Images.{recordAt, takesRecord, takesWriting}
 use Rattle.labels.specs.declared.write.Form.{Form}
 
--- "Counts are 90 initials, 66 peaks and 82 finals", over all code points
+-- simple letters and clusters of a sort
+abbrev bothMakes : (Make → Sort) → ℕ
+bothMakes sort = howMany (sort Simple) + howMany (sort Cluster)
+
+-- "Counts are 90 initials, 66 peaks and 82 finals", over all code points; document 02, #106, adds
+-- 34, 28 and 55
 abbrev pub LettersCounted : Type 0
 LettersCounted =
-    (howMany ModernInitial + howMany OldInitial ≡ 90)
-    × (howMany ModernPeak + howMany OldPeak ≡ 66)
-    × (howMany ModernFinal + howMany OldFinal ≡ 82)
+    (bothMakes ModernInitial + bothMakes OldInitial ≡ 90 + 34)
+    × (bothMakes ModernPeak + bothMakes OldPeak ≡ 66 + 28)
+    × (bothMakes ModernFinal + bothMakes OldFinal ≡ 82 + 55)
 
 -- "AC0C has final 11B3"
 abbrev pub Ac0c : Type 0

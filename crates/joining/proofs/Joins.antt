@@ -165,7 +165,7 @@ pub none-wall : (c : ℕ) → roleOf c ≡ None → Wall joiner c
 none-wall c e = let f = fence-as c e tt in record { resets = λ o. f .forgets o ∙ opens-as c e; closes = f .closes }
 
 mark-role : roleOf 0xFFFD ≡ None
-mark-role = role-between 0xD7A4 0x10FFFF 0xFFFD tt (omega arith) (omega arith)
+mark-role = role-between 0xFFFD 0xFFFD 0xFFFD tt (omega arith) (omega arith)
 
 pub mark-wall : Wall joiner 0xFFFD
 mark-wall = none-wall 0xFFFD mark-role

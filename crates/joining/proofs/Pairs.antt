@@ -5,7 +5,7 @@
 -- `pair-firm`, `pair-after`, `pair-none`); by numbers (`two-letters`, `lv-letter`,
 -- `three-letters`); what two that join make (`lv-made`, `lvt-made`, `pair-syllable`, `pair-good`);
 -- the pair law (`pair-step`, `step-pair`, `pair-law`, `by-parts`, `pair-parts`); what joins with
--- nothing more (`lvt-closed`, `no-fourth`, `a7-no-final`).
+-- nothing more (`lvt-closed`, `no-fourth`, `a7-no-final`, `new-apart`).
 use mathlib.Core.Path.{_≡_, refl, sym, _∙_, ap}
 use mathlib.Core.Bool.{true, false}
 use mathlib.Core.Logic.{_↔_}
@@ -22,10 +22,11 @@ use Rattle.letters.specs.Sorts.{sortOf}
 use Rattle.letters.specs.Syllables.{isSyllable, indexOf, initialOf, peakOf, finalOf, oneStep, partsOf}
 use Rattle.letters.proofs.Steps.{syllable-yes, syllable-least, syllable-most, step-lv, step-lvt, step-other, by-step}
 use Rattle.letters.proofs.FullParts.{full-of-step}
+use Rattle.letters.proofs.Counts.{knownBefore}
 use Rattle.joining.specs.declared.role.Role.{Role}
 use Rattle.joining.specs.declared.role.Role.the-variants.{Initial as RoleInitial, Peak, Final, Lv as RoleLv, None}
 use Rattle.joining.specs.Roles.{roleIn, roleOf, pairAs, pair}
-use Rattle.joining.proofs.Roles.{role-between, role-initial, role-peak, role-final, role-lv, role-lvt, initial-range, peak-range, final-range, lv-syllable, lv-final, firm, hard-as}
+use Rattle.joining.proofs.Roles.{role-between, role-initial, role-peak, role-final, role-lv, role-lvt, initial-range, peak-range, final-range, lv-syllable, lv-final, new-none, firm, hard-as}
 
 -- ---- by roles
 
@@ -197,6 +198,11 @@ no-fourth a b c d =
         let r = initial-range (pair a b) e in
         by-pair a b (λ p q. omega (arith, pair-lv a b p q)) (λ p q. omega (arith, pair-lvt a b p q, syllable-least a (lv-syllable a p))) (λ z. omega arith)
 
--- U+11A7, the number before the first final, is none
+-- U+11A7, the number before the first final, is no final but an old peak
 pub a7-no-final : (s : ℕ) → pair s 0x11A7 ≡ 0
 a7-no-final s = pair-before s 0x11A7 (λ e. omega (arith, peak-range 0x11A7 e)) (λ e. omega (arith, final-range 0x11A7 e))
+
+-- what was other in document 01, and so every letter that document 02, #106, adds, joins with
+-- nothing before it and nothing after it
+pub new-apart : (a c b : ℕ) → knownBefore c ≡ false → (pair a c ≡ 0) × (pair c b ≡ 0)
+new-apart a c b n = (pair-firm a c (new-none c n) tt, pair-none c b (new-none c n))

@@ -12,14 +12,14 @@ use Rattle.joining.specs.declared.role.Role.the-variants.{Initial as Rol
 -- LV goes on
 
 abbrev pub roleIn : Sort → Role
-roleIn ModernInitial = RoleInitial
-roleIn OldInitial = None
+roleIn (ModernInitial m) = RoleInitial
+roleIn (OldInitial m) = None
 roleIn InitialFiller = None
 roleIn PeakFiller = None
-roleIn ModernPeak = Peak
-roleIn OldPeak = None
-roleIn ModernFinal = Final
-roleIn OldFinal = None
+roleIn (ModernPeak m) = Peak
+roleIn (OldPeak m) = None
+roleIn (ModernFinal m) = Final
+roleIn (OldFinal m) = None
 roleIn SortLv = RoleLv
 roleIn Lvt = None
 roleIn Other = None

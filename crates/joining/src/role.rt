@@ -1,5 +1,4 @@
 // What a code point is to the joiner, and what two neighbours join to (document 01, 'Syllables').
-use letters::Sort;
 ghost use mathlib.Core.Path.{_≡_};
 ghost use Rattle.joining.specs.Roles.{roleOf, pair, pairAs};
 ghost use Rattle.joining.specs.declared.role.Role.the-variants.{Peak, Final};
@@ -12,22 +11,24 @@ pub enum Role {
     None,
 }
 
+// What a number is to the joiner. It asks for less than the sort says, so it decides by the ranges
+// of what joins: plain text first, then the syllables, then the modern letters.
 pub fn role_of(code: u32) -> Role
     ensures { λ r. ⌜ r ≡ roleOf code ⌝ }
 {
-    let sort = letters::sort_of(code);
-    match sort {
-        Sort::ModernInitial => Role::Initial,
-        Sort::ModernPeak => Role::Peak,
-        Sort::ModernFinal => Role::Final,
-        Sort::Lv => Role::Lv,
-        Sort::OldInitial => Role::None,
-        Sort::InitialFiller => Role::None,
-        Sort::PeakFiller => Role::None,
-        Sort::OldPeak => Role::None,
-        Sort::OldFinal => Role::None,
-        Sort::Lvt => Role::None,
-        Sort::Other => Role::None,
+    match code {
+        0..=0x10FF => Role::None,
+        0xAC00..=0xD7A3 => if (code - 0xAC00) % 28 == 0 {
+            Role::Lv
+        } else {
+            Role::None
+        },
+        _ => match code {
+            0x1100..=0x1112 => Role::Initial,
+            0x1161..=0x1175 => Role::Peak,
+            0x11A8..=0x11C2 => Role::Final,
+            _ => Role::None,
+        },
     }
 }
 

@@ -12,4 +12,3 @@ pub mod Lookups
 pub mod Storing
 pub mod Calls
 pub mod Lowest
-mod Copying

@@ -1,8 +1,9 @@
 -- Writing a list into a lent buffer, piece by piece. In order: a piece of what is left (`Piece`);
 -- pieces written one after the other (`Room`, `Wrote`), and those that fit (`fitted`); what a loop
 -- that fills the front keeps (`Filling`): of `whole` all but `rest` is written, k elements, and
--- after these the buffer is as it was; and what a loop that only counts keeps (`Counting`). Each
--- law concludes what the next turn, or the return, asks.
+-- after these the buffer is as it was, with numbers copied one by one (`copy-next`, `copy-all`);
+-- and what a loop that only counts keeps (`Counting`). Each law concludes what the next turn, or
+-- the return, asks.
 use mathlib.Core.Path.{_≡_, refl, sym, ap, _∙_}
 use mathlib.Core.Bool.{Bool, true, false, cond}
 use mathlib.Core.List.{List, [], _∷_, _++_, append-assoc, append-nil}
@@ -198,6 +199,14 @@ module _ {A : Type 0} where
   pub filling-last : {whole left xs out₀ out out′ : List A} {k k′ : ℕ} → length whole ≤ length out₀ → Filling whole left out₀ out k → Piece left xs []
       → Wrote out k xs k′ out′ → Fronts whole out₀ k′ out′
   filling-last h f p w = filling-all (filling-more h f p w) refl
+
+-- a list of numbers copied one by one: the next number, and the end
+module _ (list : List ℕ) {out₀ out : List ℕ} {at : ℕ} (f : Filling list (drop at list) out₀ out at) where
+  pub copy-next : length list ≤ length out₀ → at < length list → Filling list (drop (at + 1) list) out₀ (set out at (getD list at 0)) (at + 1)
+  copy-next room h = filling-more room f (record { eq = at-index 0 list at h }) (wrote-one refl)
+
+  pub copy-all : length list ≤ at → out ≡ front list out₀
+  copy-all h = filling-all f (drop-of-length-le list h) .holds
 
 -- ---- Counting: the same with no buffer, k elements counted
 

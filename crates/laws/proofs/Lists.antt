@@ -10,9 +10,12 @@ use Prim.Native.Nat.{ℕ, zero, suc, _+_, _*_, _≤_, _<_}
 use native.Mathlib.Nat.{mul-suc, add-zero, zero-add, add-suc, suc-add}
 use native.Mathlib.Numerals.{add-one}
 use native.Mathlib.Omega.{arith}
+use lib.Dec.{eqb}
 use lib.ListN.{length, getD, drop, length-append, drop-of-length-le}
 use lib.Seq.{drop-cons, drop-at, drop-append-seam}
+use borrow.Author.Tests.{eqb-true, eqb-false}
 use Rattle.laws.specs.Lists.{each, All, none, also, firstWhere, count}
+use Rattle.laws.proofs.Bools.{test as decide}
 
 -- ---- two lists put together
 
@@ -86,6 +89,12 @@ module _ {A : Type 0} {P : A → Type 0} where
   pub all-append : {x y : List A} → All P x → All P y → All P (x ++ y)
   all-append none q = q
   all-append (also h p) q = also h (all-append p q)
+
+  pub all-head : {a : A} {x : List A} → All P (a ∷ x) → P a
+  all-head (also h p) = h
+
+  pub all-tail : {a : A} {x : List A} → All P (a ∷ x) → All P x
+  all-tail (also h p) = p
 
   pub all-of : ((a : A) → P a) → (x : List A) → All P x
   all-of h [] = none
@@ -219,6 +228,13 @@ module _ (test : ℕ → Bool) where
   unfolding count
   count-none zero lo h = refl
   count-none (suc n) lo h = rw (h lo (omega arith) (omega arith)) (count-none n (suc lo) (λ c p q. h c (omega arith) (omega arith)))
+
+  pub count-zero : (n lo : ℕ) {c : ℕ} → count test lo n ≡ 0 → lo ≤ c → c < lo + n → test c ≡ false
+  unfolding count
+  count-zero zero lo e l h = absurd (omega arith)
+  count-zero (suc n) lo {c} e l h =
+      decide (test lo) (λ p. absurd (omega (arith, simp p at e)))
+      (λ p. decide (eqb c lo) (λ q. rw (eqb-true c lo q) p) (λ q. let d = eqb-false c lo q in count-zero n (suc lo) (simp p at e) (omega arith) (omega arith)))
 
   pub count-append : (n m lo : ℕ) → count test lo (n + m) ≡ count test lo n + count test (lo + n) m
   unfolding count

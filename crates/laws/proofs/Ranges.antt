@@ -1,7 +1,7 @@
 -- Ranges of numbers: from the orders to a test and back; what a list of ranges says of every number
 -- between two bounds; and where a number lies whose value is known. In order: `within`; `look`
--- forwards (`look-between`); `look` backwards (`look-inside`, and with any statement of the value
--- `look-cases`).
+-- forwards (`look-between`, `look-above`); `look` backwards (`look-inside`, and with any statement
+-- of the value `look-cases`).
 use mathlib.Core.Path.{_≡_, refl, sym, _∙_, ap}
 use mathlib.Core.Bool.{Bool, true, false, cond, _&&_, _||_}
 use mathlib.Core.Logic.{_⊎_, inl, inr, ⊎-elim}
@@ -71,6 +71,17 @@ module _ {V′ : Type 0} (none : V′) (lo hi c : ℕ) (least : lo ≤ c) (most 
   look-between [] t = refl
   look-between (range a b v ∷ rs) t =
       one-more a b v rs (leb a lo && leb hi b) (leb (suc hi) a) (leb (suc b) lo) refl refl refl t (λ u. look-between rs u)
+
+-- every range ends at hi or before, so that the list has no value for a number after hi
+abbrev pub upTo : {V′ : Type 0} → ℕ → List (Range V′) → Bool
+upTo hi [] = true
+upTo hi (range a b v ∷ rs) = leb b hi && upTo hi rs
+
+pub look-above : {V′ : Type 0} (none : V′) (hi c : ℕ) → hi < c → (rs : List (Range V′)) → T (upTo hi rs) → look none c rs ≡ none
+look-above none hi c h [] t = refl
+look-above none hi c h (range a b v ∷ rs) t =
+    simp (within-above a b c (le-trans (suc-le-suc (leb-true b hi (T-true _ (and-T-left (leb b hi) (upTo hi rs) t)))) h))
+    (look-above none hi c h rs (and-T-right (leb b hi) (upTo hi rs) t))
 
 -- ---- backwards
 

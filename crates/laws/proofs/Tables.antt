@@ -1,6 +1,6 @@
 -- A table's rule by one computed test: a test that antt computes over the whole table, and one law
 -- that turns it into the rule at each entry. In order: every entry passes (`every-at`); no two
--- entries are equal (`distinct-at`).
+-- entries are equal (`distinct-at`); what is none of the entries is absent (`absent-all`).
 use mathlib.Core.Path.{_≡_, refl, sym, ap, _∙_}
 use mathlib.Core.Bool.{Bool, true, false, not, _&&_}
 use mathlib.Core.List.{List, [], _∷_}
@@ -8,7 +8,8 @@ use Prim.Native.Nat.{ℕ, zero, suc, _+_, _<_}
 use native.Mathlib.Nat.{add-zero, zero-add, add-suc, suc-add, le-of-suc-le-suc, not-suc-le-zero}
 use lib.Dec.{T, eqb}
 use lib.ListN.{length, getD}
-use borrow.Author.Tests.{eq-eqb}
+use borrow.Author.Tests.{eq-eqb, ne-eqb}
+use Rattle.laws.specs.Lists.{All, none, also}
 use Rattle.laws.proofs.Bools.{and-T-left, and-T-right}
 
 -- ---- every entry passes
@@ -50,3 +51,7 @@ distinct-at (x ∷ xs) zero (suc j) t h k e = absurd (absent-at x xs j (and-T-le
 distinct-at (x ∷ xs) (suc i) zero t h k e = absurd (absent-at x xs i (and-T-left (absent x xs) (distinct xs) t) (le-of-suc-le-suc h) (sym e))
 distinct-at (x ∷ xs) (suc i) (suc j) t h k e =
     ap suc (distinct-at xs i j (and-T-right (absent x xs) (distinct xs) t) (le-of-suc-le-suc h) (le-of-suc-le-suc k) e)
+
+pub absent-all : (x : ℕ) {ys : List ℕ} → All (λ y. x ≡ y → ⊥) ys → absent x ys ≡ true
+absent-all x none = refl
+absent-all x (also {a = y} h p) = simp (ne-eqb x y h, absent-all x p)

@@ -7,6 +7,7 @@ mod step;
 pub use parts::Whole;
 pub use parts::full_parts;
 pub use parts::full_parts_of;
+pub use sort::Make;
 pub use sort::Sort;
 pub use sort::Sorted;
 pub use sort::sort_of;

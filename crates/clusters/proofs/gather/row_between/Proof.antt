@@ -8,10 +8,10 @@ use Rattle.clusters.proofs.gather.row_between.Statement.{statement}
 use Rattle.clusters.proofs.gather.row_between.Tie as tie
 
 abbrev Inv-loop : tie.InvT-loop
-Inv-loop row table span code₀ code = (span .low ≤ code) × Missed row (span .low) code
+Inv-loop row table low high code₀ code = (low ≤ code) × Missed row low code
 
 abbrev μ-loop : tie.MeasureT-loop
-μ-loop row table span code₀ code = span .high - code
+μ-loop row table low high code₀ code = high - code
 
 loop-holds : tie.Need-loop-holds Inv-loop μ-loop
 loop-holds c = (search needs, missed-none _ _ _ refl)
@@ -23,7 +23,7 @@ same-row-requires : tie.Need-same-row-requires Inv-loop μ-loop
 same-row-requires c κs = search needs
 
 returns : tie.Need-returns Inv-loop μ-loop
-returns c = searched-hit _ _ _ (c .before .before .row-at .ensures) (c .before .same-row .ensures) _ (c .if2 .taken)
+returns c = searched-hit _ _ _ (c .before .before .row-at .ensures) (c .before .same-row .ensures) _ (c .if1 .taken)
 
 add-code : tie.Need-add-code Inv-loop μ-loop
 add-code c = search needs
@@ -34,12 +34,12 @@ loop-less c = search needs
 loop-again : tie.Need-loop-again Inv-loop μ-loop
 loop-again c = (
   search needs,
-  missed-more _ _ _ (c .before .before .row-at .ensures) (c .before .same-row .ensures) (c .if2 .left)
-      (c .before .before .before .before .before .loop .inv .1),
+  missed-more _ _ _ (c .before .before .row-at .ensures) (c .before .same-row .ensures) (c .if1 .left)
+      (c .before .before .before .before .loop .inv .1),
 )
 
 returns-2 : tie.Need-returns-2 Inv-loop μ-loop
-returns-2 c = searched-miss _ _ _ _ (c .if1 .left) (c .before .before .loop .inv .1)
+returns-2 c = searched-miss _ _ _ _ (c .loop-test .left) (c .before .loop .inv .1)
 
 pub row-between-spec : {M : Type 1} → statement M
 row-between-spec =

@@ -1,77 +1,94 @@
--- `clusters::table::row_at` meets its contract: a row of the table, or the code alone where the
--- table does not have it.
-use Rattle.clusters.proofs.Rows.{row-read, row-below, row-above}
+-- `clusters::table::row_at` meets its contract: the row of the code's number, or the code alone
+-- where it has no row.
 use native.Mathlib.Omega.{arith}
-use Prim.Native.Nat.{_+_, _-_, _*_}
+use Rattle.laws.proofs.Ranges.{within-below, within-above}
+use Rattle.clusters.proofs.Codes.{in-table, in-initials, in-peaks, in-finals, row-off}
+use Rattle.clusters.proofs.Rows.{row-numbered, row-outside}
 use borrow.Author.Needs.{needs}
 use Rattle.clusters.proofs.table.row_at.Statement.{statement}
 use Rattle.clusters.proofs.table.row_at.Tie as tie
 
-cast-at : tie.Need-cast-at
-cast-at c = search needs
+cast-row-of : tie.Need-cast-row-of
+cast-row-of c = search needs
 
-mul-at : tie.Need-mul-at
-mul-at c = search needs
+row-of-requires : tie.Need-row-of-requires
+row-of-requires c κs = search needs
 
-mul-t7 : tie.Need-mul-t7
-mul-t7 c = search needs
+cast-row-of-2 : tie.Need-cast-row-of-2
+cast-row-of-2 c = search needs
 
-shared-slice-read-t9 : tie.Need-shared-slice-read-t9
-shared-slice-read-t9 c = search needs
+add-row-of : tie.Need-add-row-of
+add-row-of c = search needs
 
-cast-t6 : tie.Need-cast-t6
-cast-t6 c = omega (arith, c .shared-slice-known .given (3 * (c .before .before .before .args .code - 0x1100)))
+row-of-requires-2 : tie.Need-row-of-requires-2
+row-of-requires-2 c κs = search needs
 
-add-t10 : tie.Need-add-t10
-add-t10 c = search needs
+cast-row-of-3 : tie.Need-cast-row-of-3
+cast-row-of-3 c = search needs
 
-mul-t11 : tie.Need-mul-t11
-mul-t11 c = search needs
+add-row-of-2 : tie.Need-add-row-of-2
+add-row-of-2 c = search needs
 
-shared-slice-read-t13 : tie.Need-shared-slice-read-t13
-shared-slice-read-t13 c = search needs
+row-of-requires-3 : tie.Need-row-of-requires-3
+row-of-requires-3 c κs = search needs
 
-cast-t14 : tie.Need-cast-t14
-cast-t14 c = omega (arith, c .shared-slice-known2 .given (3 * (c .before .before .before .before .args .code - 0x1100) + 1))
+cast-row-of-4 : tie.Need-cast-row-of-4
+cast-row-of-4 c = search needs
 
-add-t15 : tie.Need-add-t15
-add-t15 c = search needs
+add-row-of-3 : tie.Need-add-row-of-3
+add-row-of-3 c = search needs
 
-mul-t16 : tie.Need-mul-t16
-mul-t16 c = search needs
-
-shared-slice-read-t18 : tie.Need-shared-slice-read-t18
-shared-slice-read-t18 c = search needs
-
-cast-t19 : tie.Need-cast-t19
-cast-t19 c = omega (arith, c .shared-slice-known3 .given (3 * (c .before .before .before .before .before .args .code - 0x1100) + 2))
+row-of-requires-4 : tie.Need-row-of-requires-4
+row-of-requires-4 c κs = search needs
 
 returns : tie.Need-returns
-returns c = row-read _ (c .before .before .before .before .before .pre) (omega arith) (omega arith)
+returns c = row-numbered _ (in-table _ (omega arith) (omega arith)) (c .row-of .ensures)
 
 returns-2 : tie.Need-returns-2
-returns-2 c = row-below _ (omega arith)
+returns-2 c = row-numbered _ (in-initials _ (omega arith) (omega arith)) (c .row-of2 .ensures)
 
 returns-3 : tie.Need-returns-3
-returns-3 c = row-above _ (omega arith)
+returns-3 c = row-numbered _ (in-peaks _ (omega arith) (omega arith)) (c .row-of3 .ensures)
+
+returns-4 : tie.Need-returns-4
+returns-4 c = row-numbered _ (in-finals _ (omega arith) (omega arith)) (c .row-of4 .ensures)
+
+returns-5 : tie.Need-returns-5
+returns-5 c = row-outside _ (row-off _ (within-below 0x1100 0x11FF _ (omega arith)) (within-below 0xA960 0xA97C _ (omega arith)) (within-below 0xD7B0 0xD7C6 _ (omega arith)) (within-below 0xD7CB 0xD7FB _ (omega arith)))
+
+returns-6 : tie.Need-returns-6
+returns-6 c = row-outside _ (row-off _ (within-above 0x1100 0x11FF _ (omega arith)) (within-below 0xA960 0xA97C _ (omega arith)) (within-below 0xD7B0 0xD7C6 _ (omega arith)) (within-below 0xD7CB 0xD7FB _ (omega arith)))
+
+returns-7 : tie.Need-returns-7
+returns-7 c = row-outside _ (row-off _ (within-above 0x1100 0x11FF _ (omega arith)) (within-above 0xA960 0xA97C _ (omega arith)) (within-below 0xD7B0 0xD7C6 _ (omega arith)) (within-below 0xD7CB 0xD7FB _ (omega arith)))
+
+returns-8 : tie.Need-returns-8
+returns-8 c = row-outside _ (row-off _ (within-above 0x1100 0x11FF _ (omega arith)) (within-above 0xA960 0xA97C _ (omega arith)) (within-above 0xD7B0 0xD7C6 _ (omega arith)) (within-below 0xD7CB 0xD7FB _ (omega arith)))
+
+returns-9 : tie.Need-returns-9
+returns-9 c = row-outside _ (row-off _ (within-above 0x1100 0x11FF _ (omega arith)) (within-above 0xA960 0xA97C _ (omega arith)) (within-above 0xD7B0 0xD7C6 _ (omega arith)) (within-above 0xD7CB 0xD7FB _ (omega arith)))
 
 pub row-at-spec : {M : Type 1} → statement M
 row-at-spec =
     tie.close
     (tie.spec
-    cast-at
-    mul-at
-    mul-t7
-    shared-slice-read-t9
-    cast-t6
-    add-t10
-    mul-t11
-    shared-slice-read-t13
-    cast-t14
-    add-t15
-    mul-t16
-    shared-slice-read-t18
-    cast-t19
+    cast-row-of
+    row-of-requires
+    cast-row-of-2
+    add-row-of
+    row-of-requires-2
+    cast-row-of-3
+    add-row-of-2
+    row-of-requires-3
+    cast-row-of-4
+    add-row-of-3
+    row-of-requires-4
     returns
     returns-2
-    returns-3)
+    returns-3
+    returns-4
+    returns-5
+    returns-6
+    returns-7
+    returns-8
+    returns-9)

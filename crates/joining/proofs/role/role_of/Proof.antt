@@ -1,114 +1,48 @@
--- `joining::role::role_of` meets its contract: each return knows which sort the code point has.
-use Rattle.joining.specs.Roles.{roleIn, roleOf}
-use mathlib.Core.Path.{refl, sym, ap, _∙_}
-use borrow.Author.Needs.{needs}
+-- `joining::role::role_of` meets its contract: at each return it is known whether the number is a
+-- modern letter or a syllable, and `role-none` says of all others that they have no role.
+use mathlib.Core.Path.{sym}
+use mathlib.Core.Logic.{⊎-elim}
+use native.Mathlib.Omega.{arith}
+use Rattle.letters.proofs.Steps.{syllable-yes, syllable-least, syllable-most}
+use Rattle.joining.proofs.Roles.{role-initial, role-peak, role-final, role-lv, role-lvt, role-none}
 use Rattle.joining.proofs.role.role_of.Statement.{statement}
 use Rattle.joining.proofs.role.role_of.Tie as tie
 
-sort-of-requires : tie.Need-sort-of-requires
-sort-of-requires c κs = search needs
-
-enum-told : tie.Need-enum-told
-enum-told c = search needs
-
-enum-told-2 : tie.Need-enum-told-2
-enum-told-2 c = search needs
-
-enum-told-3 : tie.Need-enum-told-3
-enum-told-3 c = search needs
-
-enum-told-4 : tie.Need-enum-told-4
-enum-told-4 c = search needs
-
-enum-told-5 : tie.Need-enum-told-5
-enum-told-5 c = search needs
-
-enum-told-6 : tie.Need-enum-told-6
-enum-told-6 c = search needs
-
-enum-told-7 : tie.Need-enum-told-7
-enum-told-7 c = search needs
-
-enum-told-8 : tie.Need-enum-told-8
-enum-told-8 c = search needs
-
-enum-told-9 : tie.Need-enum-told-9
-enum-told-9 c = search needs
-
-enum-told-10 : tie.Need-enum-told-10
-enum-told-10 c = search needs
-
-enum-told-11 : tie.Need-enum-told-11
-enum-told-11 c = search needs
-
 returns : tie.Need-returns
-unfolding roleOf
-returns c = sym (ap roleIn (sym (c .before .before .sort-of .ensures) ∙ c .enum-told .given .1))
+returns c = sym (role-none _ (λ h. omega arith) (λ h. omega arith) (λ h. omega arith) (λ s. omega (arith, syllable-least _ s)))
 
 returns-2 : tie.Need-returns-2
-unfolding roleOf
-returns-2 c = sym (ap roleIn (sym (c .before .before .sort-of .ensures) ∙ c .enum-told2 .given .1))
+returns-2 c = sym (role-lv _ (syllable-yes _ (omega arith) (omega arith)) (c .if4 .taken))
 
 returns-3 : tie.Need-returns-3
-unfolding roleOf
-returns-3 c = sym (ap roleIn (sym (c .before .before .sort-of .ensures) ∙ c .enum-told3 .given .1))
+returns-3 c = sym (role-lvt _ (syllable-yes _ (omega arith) (omega arith)) (c .if4 .left))
 
 returns-4 : tie.Need-returns-4
-unfolding roleOf
-returns-4 c = sym (ap roleIn (sym (c .before .before .sort-of .ensures) ∙ c .enum-told4 .given .1))
+returns-4 c = sym (role-initial _ (omega arith) (omega arith))
 
 returns-5 : tie.Need-returns-5
-unfolding roleOf
-returns-5 c = sym (ap roleIn (sym (c .before .before .sort-of .ensures) ∙ c .enum-told5 .given .1))
+returns-5 c = sym (role-peak _ (omega arith) (omega arith))
 
 returns-6 : tie.Need-returns-6
-unfolding roleOf
-returns-6 c = sym (ap roleIn (sym (c .before .before .sort-of .ensures) ∙ c .enum-told6 .given .1))
+returns-6 c = sym (role-final _ (omega arith) (omega arith))
 
+-- the inner match looks below 1100 too; no number comes there
 returns-7 : tie.Need-returns-7
-unfolding roleOf
-returns-7 c = sym (ap roleIn (sym (c .before .before .sort-of .ensures) ∙ c .enum-told7 .given .1))
+returns-7 c = sym (role-none _ (λ h. omega arith) (λ h. omega arith) (λ h. omega arith) (λ s. omega (arith, syllable-least _ s)))
 
 returns-8 : tie.Need-returns-8
-unfolding roleOf
-returns-8 c = sym (ap roleIn (sym (c .before .before .sort-of .ensures) ∙ c .enum-told8 .given .1))
+returns-8 c = sym (role-none _ (λ h. omega arith) (λ h. omega arith) (λ h. omega arith) (λ s. omega (arith, syllable-least _ s)))
 
 returns-9 : tie.Need-returns-9
-unfolding roleOf
-returns-9 c = sym (ap roleIn (sym (c .before .before .sort-of .ensures) ∙ c .enum-told9 .given .1))
+returns-9 c = sym (role-none _ (λ h. omega arith) (λ h. omega arith) (λ h. omega arith) (λ s. omega (arith, syllable-least _ s)))
 
+-- from 11C3 on, reached from two sides of the syllables: before AC00, and after D7A3
 returns-10 : tie.Need-returns-10
-unfolding roleOf
-returns-10 c = sym (ap roleIn (sym (c .before .before .sort-of .ensures) ∙ c .enum-told10 .given .1))
-
-returns-11 : tie.Need-returns-11
-unfolding roleOf
-returns-11 c = sym (ap roleIn (sym (c .before .before .sort-of .ensures) ∙ c .enum-told11 .given .1))
+returns-10 c =
+    ⊎-elim (λ w. sym (role-none _ (λ h. omega arith) (λ h. omega arith) (λ h. omega arith) (λ s. omega (arith, w .taken, syllable-least _ s))))
+    (λ w. sym (role-none _ (λ h. omega arith) (λ h. omega arith) (λ h. omega arith) (λ s. omega (arith, w .1 .left, syllable-most _ s))))
+    (c .before .before .before .before .before .before .if2 .came)
 
 pub role-of-spec : {M : Type 1} → statement M
 role-of-spec =
-    tie.close
-    (tie.spec
-    sort-of-requires
-    enum-told
-    enum-told-2
-    enum-told-3
-    enum-told-4
-    enum-told-5
-    enum-told-6
-    enum-told-7
-    enum-told-8
-    enum-told-9
-    enum-told-10
-    enum-told-11
-    returns
-    returns-2
-    returns-3
-    returns-4
-    returns-5
-    returns-6
-    returns-7
-    returns-8
-    returns-9
-    returns-10
-    returns-11)
+    tie.close (tie.spec returns returns-2 returns-3 returns-4 returns-5 returns-6 returns-7 returns-8 returns-9 returns-10)

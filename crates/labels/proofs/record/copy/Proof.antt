@@ -3,8 +3,7 @@
 use Prim.Native.Nat.{_≤_, _-_}
 use native.Mathlib.Omega.{arith}
 use lib.ListN.{length, drop}
-use Rattle.laws.proofs.Filling.{Filling, filling-none, filling-length}
-use Rattle.labels.proofs.Copying.{copy-next, copy-all}
+use Rattle.laws.proofs.Filling.{Filling, filling-none, filling-length, copy-next, copy-all}
 use borrow.Author.Needs.{needs}
 use Rattle.labels.proofs.record.copy.Statement.{statement}
 use Rattle.labels.proofs.record.copy.Tie as tie
