@@ -1,9 +1,9 @@
 -- The codes that have a row. In order: numbers that follow each other (`numbers-at`,
 -- `numbers-first`, `numbers-later`); the number of a code's row (`Numbered`), by the range that the
 -- code lies in (`in-table`, `in-initials`, `in-peaks`, `in-finals`) and by cases (`has-number`);
--- the codes of the tables have rows (`codes-have-rows`); where there is no row (`row-off`), and so
--- no row below 1100 (`row-least`), none of a syllable (`row-beside`), and a letter or filler
--- nowhere else (`off-neither`).
+-- the codes of the tables have rows (`codes-have-rows`); where there is no row (`row-off`,
+-- `before-table` and the like), and so no row below 1100 (`row-least`), none of a syllable
+-- (`row-beside`), and a letter or filler nowhere else (`off-neither`).
 use mathlib.Core.Path.{_≡_, refl, sym, _∙_, ap}
 use mathlib.Core.Bool.{Bool, true, false, _||_, true≢false}
 use mathlib.Core.Logic.{⊎-elim}
@@ -18,6 +18,7 @@ use Rattle.laws.specs.Lists.{All}
 use Rattle.laws.specs.Ranges.{within}
 use Rattle.laws.proofs.Bools.{test, T-true, or-left, or-right}
 use Rattle.laws.proofs.Ranges.{within-yes, within-below, within-above, within-least, within-most, within-not}
+use Rattle.laws.proofs.Lists.{all-at}
 use Rattle.laws.proofs.Strings.{every-all}
 use Rattle.laws.proofs.Tables.{every}
 use Rattle.letters.specs.Sorts.{classOf, neither}
@@ -112,6 +113,9 @@ have-rows = tt
 pub codes-have-rows : All (λ c. hasRow c ≡ true) rowCodes
 codes-have-rows = every-all hasRow (λ c t. T-true _ t) rowCodes 0 have-rows
 
+pub has-row : (c k : ℕ) → Numbered c k → hasRow c ≡ true
+has-row c k is = rw (is .code) at (all-at 0 codes-have-rows k (rw codes-length (is .small)))
+
 -- ---- where there is no row
 
 module _ (c : ℕ) where
@@ -120,22 +124,41 @@ module _ (c : ℕ) where
   unfolding hasRow
   row-off n m o p = simp (n, m, o, p)
 
+  -- before the ranges of codes, between them and after them
+  pub before-table : c < 0x1100 → hasRow c ≡ false
+  before-table h =
+      row-off (within-below 0x1100 0x11FF c h) (within-below 0xA960 0xA97C c (omega arith)) (within-below 0xD7B0 0xD7C6 c (omega arith))
+      (within-below 0xD7CB 0xD7FB c (omega arith))
+
+  pub before-initials : 0x11FF < c → c < 0xA960 → hasRow c ≡ false
+  before-initials l h =
+      row-off (within-above 0x1100 0x11FF c l) (within-below 0xA960 0xA97C c h) (within-below 0xD7B0 0xD7C6 c (omega arith))
+      (within-below 0xD7CB 0xD7FB c (omega arith))
+
+  pub before-peaks : 0xA97C < c → c < 0xD7B0 → hasRow c ≡ false
+  before-peaks l h =
+      row-off (within-above 0x1100 0x11FF c (omega arith)) (within-above 0xA960 0xA97C c l) (within-below 0xD7B0 0xD7C6 c h)
+      (within-below 0xD7CB 0xD7FB c (omega arith))
+
+  pub before-finals : 0xD7C6 < c → c < 0xD7CB → hasRow c ≡ false
+  before-finals l h =
+      row-off (within-above 0x1100 0x11FF c (omega arith)) (within-above 0xA960 0xA97C c (omega arith)) (within-above 0xD7B0 0xD7C6 c l)
+      (within-below 0xD7CB 0xD7FB c h)
+
+  pub after-finals : 0xD7FB < c → hasRow c ≡ false
+  after-finals l =
+      row-off (within-above 0x1100 0x11FF c (omega arith)) (within-above 0xA960 0xA97C c (omega arith)) (within-above 0xD7B0 0xD7C6 c (omega arith))
+      (within-above 0xD7CB 0xD7FB c l)
+
   pub row-least : hasRow c ≡ true → 0x1100 ≤ c
-  row-least e = test (ltb c 0x1100) (λ q. absurd (true≢false (sym e ∙ below (ltb-true c 0x1100 q)))) (λ q. ltb-false c 0x1100 q)
-    where
-      below : c < 0x1100 → hasRow c ≡ false
-      below h =
-          row-off (within-below 0x1100 0x11FF c h) (within-below 0xA960 0xA97C c (omega arith)) (within-below 0xD7B0 0xD7C6 c (omega arith))
-          (within-below 0xD7CB 0xD7FB c (omega arith))
+  row-least e = test (ltb c 0x1100) (λ q. absurd (true≢false (sym e ∙ before-table (ltb-true c 0x1100 q)))) (λ q. ltb-false c 0x1100 q)
 
   pub row-beside : hasRow c ≡ true → isSyllable c ≡ false
   unfolding isSyllable
   row-beside e = test (within 0xAC00 0xD7A3 c) (λ q. absurd (true≢false (sym e ∙ among (within-least _ _ c q) (within-most _ _ c q)))) (λ q. q)
     where
       among : 0xAC00 ≤ c → c ≤ 0xD7A3 → hasRow c ≡ false
-      among l h =
-          row-off (within-above 0x1100 0x11FF c (omega arith)) (within-above 0xA960 0xA97C c (omega arith)) (within-below 0xD7B0 0xD7C6 c (omega arith))
-          (within-below 0xD7CB 0xD7FB c (omega arith))
+      among l h = before-peaks (omega arith) (omega arith)
 
   -- what has no row is no letter and no filler
   pub off-neither : hasRow c ≡ false → neither ≡ classOf c

@@ -1,5 +1,6 @@
 -- The laws of crate clusters. What a caller may cite is `pub mod`; functions' proofs have folders
 -- of their own.
+pub mod Packing
 pub mod Codes
 pub mod Rule
 pub mod Rows

@@ -1,16 +1,16 @@
--- The numbers of the two tables, and their rows by value. It has: the rows of codes, one after the
--- other (`rows-at`); both tables as the code puts them together (`both-rows`); a row as the code
--- reads it (`row-read`, `row-numbered`), and where a code is alone (`row-outside`); the letters of
--- a row by value (`by-one`, `by-two`, `by-three`), which are those of every number (`letters-by`).
+-- The numbers of the two tables, and their rows by value. It has: rows one after the other
+-- (`threes-at`), so that each number of a table unpacks to its row (`row-unpacked`); both tables as
+-- the code puts them together (`both-rows`); a row as the code reads it (`row-numbered`), and where
+-- a code is alone (`row-outside`); the letters of a row by value (`by-one`, `by-two`, `by-three`),
+-- which are those of every number (`letters-by`).
 use mathlib.Core.Path.{_≡_, refl, sym, _∙_, ap}
-use mathlib.Core.Bool.{false}
+use mathlib.Core.Bool.{true, false}
 use mathlib.Core.List.{List, [], _∷_, _++_, append-nil}
-use Prim.Native.Nat.{ℕ, zero, suc, _+_, _*_, _≤_, _<_}
-use native.Mathlib.Nat.{add-zero}
+use Prim.Native.Nat.{ℕ, zero, suc, _+_, _*_, _/_, _%_, _≤_, _<_}
 use native.Mathlib.Omega.{arith}
 use lib.Dec.{eqb}
 use lib.ListN.{length, getD, take, drop, length-append, length-take, length-drop, drop-of-length-le}
-use lib.Seq.{length-take-le, getD-take, getD-drop, take-at, drop-at, drop-append-add}
+use lib.Seq.{length-take-le, take-at, drop-at, drop-append-add}
 use borrow.Author.Tests.{eqb-true, eqb-false, ne-eqb}
 use Rattle.laws.specs.Lists.{each, All, none, also}
 use Rattle.laws.specs.Writing.{front, Room, Wrote}
@@ -18,84 +18,99 @@ use Rattle.laws.proofs.Bools.{test}
 use Rattle.laws.proofs.Lists.{each-append}
 use Rattle.laws.proofs.Filling.{room-all}
 use Rattle.clusters.specs.Table.{lettersOf, hasRow, clusterRow}
-use Rattle.clusters.specs.Rows.{tableCodes, extendedCodes, rowCodes, rowCode, rowsOf, Rows, asRow, rowBy, lettersBy}
+use Rattle.clusters.specs.Rows.{unpacked, tableCodes, extendedCodes, rowCodes, rowCode, rowsOf, rowsIn, Rows, asRow, rowBy, lettersBy}
+use Rattle.clusters.specs.Inner.{rowFrom}
 use Rattle.clusters.specs.declared.table.Row.{Row}
-use Rattle.clusters.proofs.Codes.{Numbered, codes-length, row-least}
+use Rattle.clusters.proofs.Codes.{Numbered, codes-length, has-row, row-least}
 use Rattle.clusters.proofs.Rule.{letters-least, letters-most, letters-outside, letters-nonzero}
 
--- ---- the rows of codes, one after the other
+-- ---- rows one after the other, whatever gives them: three numbers each
 
+module _ (row : ℕ → List ℕ) (three : (n : ℕ) → length (row n) ≡ 3) where
+  threes-length : (l : List ℕ) → length (each row l) ≡ 3 * length l
+  unfolding each
+  threes-length [] = refl
+  threes-length (n ∷ l) = rw length-append (omega (arith, three n, threes-length l))
+
+  -- row k is that of number k
+  threes-at : (l : List ℕ) (k : ℕ) → k < length l → take 3 (drop (3 * k) (each row l)) ≡ row (getD l k 0)
+  unfolding each
+  threes-at [] k h = absurd (omega arith)
+  threes-at (n ∷ l) zero h = take-at (row n) (each row l) 3 (three n)
+  threes-at (n ∷ l) (suc k) h =
+      let far : 3 * suc k ≡ length (row n) + 3 * k = omega (arith, three n) in
+      ap (λ (i : ℕ). take 3 (drop i (row n ++ each row l))) far ∙ ap (take 3) (drop-append-add (row n) (each row l) (3 * k))
+      ∙ threes-at l k (omega arith)
+
+-- 01's rows are such, and so are unpacked numbers
 row-length : (c : ℕ) → length (clusterRow c) ≡ 3
 row-length c = length-take-le 3 (lettersOf c ++ (0 ∷ 0 ∷ [])) (rw length-append (omega (arith, letters-least c)))
 
-rows-length : (codes : List ℕ) → length (rowsOf codes) ≡ 3 * length codes
-unfolding each
-rows-length [] = refl
-rows-length (c ∷ codes) = rw length-append (omega (arith, row-length c, rows-length codes))
+unpacked-length : (n : ℕ) → length (unpacked n) ≡ 3
+unpacked-length n = refl
 
--- row k is that of code k
-rows-at : (codes : List ℕ) (k : ℕ) → k < length codes → take 3 (drop (3 * k) (rowsOf codes)) ≡ clusterRow (getD codes k 0)
-unfolding each
-rows-at [] k h = absurd (omega arith)
-rows-at (c ∷ codes) zero h = take-at (clusterRow c) (rowsOf codes) 3 (row-length c)
-rows-at (c ∷ codes) (suc k) h =
-    let far : 3 * suc k ≡ length (clusterRow c) + 3 * k = omega (arith, row-length c) in
-    ap (λ (n : ℕ). take 3 (drop n (clusterRow c ++ rowsOf codes))) far ∙ ap (take 3) (drop-append-add (clusterRow c) (rowsOf codes) (3 * k))
-    ∙ rows-at codes k (omega arith)
+module _ (table : List ℕ) (rows : Rows table) where
+  pub table-size : length table ≡ 357
+  table-size = omega (arith, ap length rows, threes-length unpacked unpacked-length table, threes-length clusterRow row-length rowCodes, codes-length)
+
+  -- EACH NUMBER OF THE TABLES UNPACKS TO 01'S ROW OF ITS CODE
+  pub row-unpacked : (k : ℕ) → k < 357 → unpacked (getD table k 0) ≡ clusterRow (rowCode k)
+  row-unpacked k h =
+      sym (threes-at unpacked unpacked-length table k (rw table-size h)) ∙ ap (λ (l : List ℕ). take 3 (drop (3 * k) l)) rows
+      ∙ threes-at clusterRow row-length rowCodes k (rw codes-length h)
 
 -- ---- both tables, as the code puts them together: the first at the front of a buffer of zeros,
 -- and the second after it
 
-module _ (zeros : List ℕ) {first second both part : List ℕ} (is-first : first ≡ rowsOf tableCodes) (is-second : second ≡ rowsOf extendedCodes)
-    (size-first : 768 ≡ length first) (size-second : 303 ≡ length second) (size : length zeros ≡ 1071)
-    (put-first : both ≡ front first zeros) (put-second : part ≡ front second (take 303 (drop 768 both))) where
-  at-front : take 768 both ≡ first
-  at-front = rw put-first (take-at first (drop (length first) zeros) 768 (sym size-first))
+module _ (zeros first second : List ℕ) {both part : List ℕ} (is-first : rowsIn first ≡ rowsOf tableCodes) (is-second : rowsIn second ≡ rowsOf extendedCodes)
+    (size-first : 256 ≡ length first) (size-second : 101 ≡ length second) (size : length zeros ≡ 357)
+    (put-first : both ≡ front first zeros) (put-second : part ≡ front second (take 101 (drop 256 both))) where
+  at-front : take 256 both ≡ first
+  at-front = rw put-first (take-at first (drop (length first) zeros) 256 (sym size-first))
 
-  after-first : length (drop 768 both) ≡ 303
-  after-first = rw (put-first, drop-at first (drop (length first) zeros) 768 (sym size-first)) (simp length-drop (omega (arith, size-first, size)))
+  after-first : length (drop 256 both) ≡ 101
+  after-first = rw (put-first, drop-at first (drop (length first) zeros) 256 (sym size-first)) (simp length-drop (omega (arith, size-first, size)))
 
   is-part : part ≡ second
   is-part =
-      let full : length (take 303 (drop 768 both)) ≤ length second = simp length-take (omega (arith, size-second, after-first)) in
-      put-second ∙ ap (λ (l : List ℕ). second ++ l) (drop-of-length-le (take 303 (drop 768 both)) full) ∙ append-nil second
+      let full : length (take 101 (drop 256 both)) ≤ length second = simp length-take (omega (arith, size-second, after-first)) in
+      put-second ∙ ap (λ (l : List ℕ). second ++ l) (drop-of-length-le (take 101 (drop 256 both)) full) ∙ append-nil second
 
-  nothing-after : drop 303 (drop 768 both) ≡ []
-  nothing-after = let end : length (drop 768 both) ≤ 303 = omega (arith, after-first) in drop-of-length-le (drop 768 both) end
+  nothing-after : drop 101 (drop 256 both) ≡ []
+  nothing-after = let end : length (drop 256 both) ≤ 101 = omega (arith, after-first) in drop-of-length-le (drop 256 both) end
 
-  put-both : take 768 both ++ (part ++ drop 303 (drop 768 both)) ≡ first ++ second
+  put-both : take 256 both ++ (part ++ drop 101 (drop 256 both)) ≡ first ++ second
   put-both = rw (at-front, is-part, nothing-after, append-nil second)
 
-  pub both-rows : (1071 ≡ length (take 768 both ++ (part ++ drop 303 (drop 768 both)))) × Rows (take 768 both ++ (part ++ drop 303 (drop 768 both)))
+  pub both-rows : (357 ≡ length (take 256 both ++ (part ++ drop 101 (drop 256 both)))) × Rows (take 256 both ++ (part ++ drop 101 (drop 256 both)))
   both-rows = (
     rw put-both (rw length-append (omega (arith, size-first, size-second))),
-    put-both ∙ rw (is-first, is-second) (sym (each-append clusterRow tableCodes extendedCodes)),
+    ap rowsIn put-both ∙ each-append unpacked first second ∙ rw (is-first, is-second) (sym (each-append clusterRow tableCodes extendedCodes)),
   )
 
 -- ---- the row of a code by value, as the code reads it
 
-in-row : (l : List ℕ) (n i : ℕ) → i < 3 → getD (take 3 (drop n l)) i 0 ≡ getD l (n + i) 0
-in-row l n i h = getD-take 3 (drop n l) i 0 h ∙ getD-drop n l i 0
+-- letters that are not 0 have such a one first in their row
+first-nonzero : {x : List ℕ} → All (λ l. l ≡ 0 → ⊥) x → 1 ≤ length x → getD (take 3 (x ++ (0 ∷ 0 ∷ []))) 0 0 ≡ 0 → ⊥
+first-nonzero none h = absurd (omega arith)
+first-nonzero (also p rest) h = p
 
-pub table-size : {table : List ℕ} → Rows table → length table ≡ 1071
-table-size rows = ap length rows ∙ rows-length rowCodes ∙ ap (λ (n : ℕ). 3 * n) codes-length
-
-pub row-read : {table : List ℕ} → Rows table → (k : ℕ) → k < 357 → record {
-  first = getD table (3 * k) 0;
-  second = getD table (3 * k + 1) 0;
-  third = getD table (3 * k + 2) 0;
-} ≡ rowBy (rowCode k)
+-- so the number of a row has a first letter, and is not 0
+row-from : (c n : ℕ) → hasRow c ≡ true → unpacked n ≡ clusterRow c → rowFrom c n ≡ rowBy c
 unfolding rowBy
-row-read {table} rows k h =
-    let read = in-row table (3 * k) in
-    let here : take 3 (drop (3 * k) table) ≡ clusterRow (rowCode k) = ap (λ (t : List ℕ). take 3 (drop (3 * k) t)) rows ∙ rows-at rowCodes k (rw codes-length h) in
-    sym (sym (ap asRow here) ∙ simp (read 0 (omega arith), read 1 (omega arith), read 2 (omega arith), add-zero))
+row-from c n has is = simp (ne-eqb n 0 (λ z. some (rw z refl))) (simp (ne-eqb (n % 512) 0 some) at (ap asRow is))
+  where
+    some : n % 512 ≡ 0 → ⊥
+    some z =
+        first-nonzero (letters-nonzero c (λ e. omega (arith, e, row-least c has))) (letters-least c)
+        (sym (ap (λ (row : List ℕ). getD row 0 0) is) ∙ rw z)
 
--- the row of a number is that of its code; what has no row is alone
-pub row-numbered : (c : ℕ) {k : ℕ} {row : Row} → Numbered c k → row ≡ rowBy (rowCode k) → row ≡ rowBy c
-row-numbered c is e = e ∙ ap rowBy (is .code)
+-- THE ROW OF A CODE IS READ FROM ITS NUMBER; what has no row is alone
+pub row-numbered : (table : List ℕ) → Rows table → (c k : ℕ) → Numbered c k → rowFrom c (getD table k 0) ≡ rowBy c
+row-numbered table rows c k is =
+    row-from c (getD table k 0) (has-row c k is) (row-unpacked table rows k (is .small) ∙ ap clusterRow (is .code))
 
-pub row-outside : (c : ℕ) → hasRow c ≡ false → asRow (c ∷ []) ≡ rowBy c
+pub row-outside : (c : ℕ) → hasRow c ≡ false → rowFrom c 0 ≡ rowBy c
 unfolding rowBy
 row-outside c e = rw (letters-outside c e)
 

@@ -18,7 +18,7 @@ use Rattle.laws.specs.Strings.{same}
 use Rattle.laws.proofs.Bools.{test, T-true, and-T-left, and-T-right}
 use Rattle.laws.proofs.Lists.{all-map}
 use Rattle.laws.proofs.Ranges.{within-least, within-most}
-use Rattle.laws.proofs.Strings.{same-true, every-all, packed}
+use Rattle.laws.proofs.Strings.{same-true, every-all}
 use Rattle.laws.proofs.Tables.{every, every-at, distinct, distinct-at}
 use Rattle.answers.specs.Checks.{bad}
 use Rattle.answers.proofs.Checks.{good-low}
@@ -29,7 +29,7 @@ use Rattle.letters.specs.declared.sort.Sort.{Sort}
 use Rattle.letters.specs.declared.sort.Sort.the-variants.{ModernInitial, OldInitial, InitialFiller, PeakFiller, ModernPeak, OldPeak, ModernFinal, OldFinal, Lv, Lvt, Other}
 use Rattle.letters.proofs.Sorts.{classIn, sort-is-class, classNumber, isClass}
 use Rattle.clusters.specs.Table.{Cluster, two, three, modernInitials, oldInitials, modernPeaks, oldPeaks, modernFinals, oldFinals, addedInitials, addedPeaks, addedFinals, extendedInitials, extendedPeaks, extendedFinals, clusters, clusterCode, lettersIn, lettersFrom, lettersOf, hasRow, clusterRow, Place, initial, peak, final, nowhere, placeOf, Rule, TableRule}
-use Rattle.clusters.specs.Rows.{numbersFrom, rowCodes, rowCode}
+use Rattle.clusters.specs.Rows.{packed, numbersFrom, rowCodes, rowCode}
 use Rattle.clusters.specs.Simple.{isLetter}
 use Rattle.clusters.proofs.Codes.{Numbered, has-number, codes-length, off-neither}
 
@@ -66,7 +66,7 @@ rightLetter c l = eqb (placeNumber (placeOf l)) (placeNumber (placeOf c)) && lon
 unfoldable rightRow : ℕ → Bool
 rightRow c = (lone c || isLetter c) && every (λ n l. rightLetter c l) 0 (lettersOf c)
 
--- the row of a code as one number
+-- a row as one number, as the tables have it
 unfoldable packedRow : ℕ → ℕ
 packedRow c = packed (clusterRow c)
 

@@ -40,7 +40,7 @@ returns : tie.Need-returns
 returns c =
     let first = c .before .before .before .before .before .before .before .before .before .table-rows .ensures in
     let second = c .before .before .before .before .before .before .before .before .extended-rows .ensures in
-    both-rows (replicate 1071 0) (first .1) (second .1) (first .0) (second .0) refl (c .before .before .before .before .before .copy .ensures) (c .before .copy2 .ensures)
+    both-rows (replicate 357 0) _ _ (first .1) (second .1) (first .0) (second .0) refl (c .before .before .before .before .before .copy .ensures) (c .before .copy2 .ensures)
 
 pub table-spec : {M : Type 1} → statement M
 table-spec =

@@ -1,8 +1,7 @@
--- `clusters::table::table_rows` meets its contract: the constant is the rows of its codes, by a
--- computed test.
+-- `clusters::table::table_rows` meets its contract: the constant unpacks to the rows of its
+-- codes, by one computed test.
 use mathlib.Core.Path.{refl}
 use Rattle.laws.specs.Lists.{each}
-use Rattle.laws.proofs.Bools.{T-true}
 use Rattle.laws.proofs.Strings.{same-true}
 use Rattle.clusters.specs.Table.{clusters, lettersOf}
 use Rattle.clusters.specs.Rows.{numbersFrom, tableCodes, rowsOf}
