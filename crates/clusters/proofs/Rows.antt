@@ -1,8 +1,8 @@
 -- The numbers of the two tables, and their rows by value. It has: rows one after the other
 -- (`threes-at`), so that each number of a table unpacks to its row (`row-unpacked`); both tables as
--- the code puts them together (`both-rows`); a row as the code reads it (`row-numbered`), and where
--- a code is alone (`row-outside`); the letters of a row by value (`by-one`, `by-two`, `by-three`),
--- which are those of every number (`letters-by`).
+-- the code puts them together (`both-rows`); a row as the code reads it (`row-packed`, `row-read`),
+-- and where a code is alone (`row-alone`); the letters of a row by value (`by-one`, `by-two`,
+-- `by-three`), which are those of every number (`letters-by`).
 use mathlib.Core.Path.{_≡_, refl, sym, _∙_, ap}
 use mathlib.Core.Bool.{true, false}
 use mathlib.Core.List.{List, [], _∷_, _++_, append-nil}
@@ -18,8 +18,8 @@ use Rattle.laws.proofs.Bools.{test}
 use Rattle.laws.proofs.Lists.{each-append}
 use Rattle.laws.proofs.Filling.{room-all}
 use Rattle.clusters.specs.Table.{lettersOf, hasRow, clusterRow}
-use Rattle.clusters.specs.Rows.{unpacked, tableCodes, extendedCodes, rowCodes, rowCode, rowsOf, rowsIn, Rows, asRow, rowBy, lettersBy}
-use Rattle.clusters.specs.Inner.{rowFrom}
+use Rattle.clusters.specs.Rows.{letterIn, unpacked, tableCodes, extendedCodes, rowCodes, rowCode, rowsOf, rowsIn, Rows, asRow, rowBy, lettersBy}
+use Rattle.clusters.specs.Inner.{Packs, packs, packs-none}
 use Rattle.clusters.specs.declared.table.Row.{Row}
 use Rattle.clusters.proofs.Codes.{Numbered, codes-length, has-row, row-least}
 use Rattle.clusters.proofs.Rule.{letters-least, letters-most, letters-outside, letters-nonzero}
@@ -95,24 +95,34 @@ first-nonzero : {x : List ℕ} → All (λ l. l ≡ 0 → ⊥) x → 1 ≤ lengt
 first-nonzero none h = absurd (omega arith)
 first-nonzero (also p rest) h = p
 
--- so the number of a row has a first letter, and is not 0
-row-from : (c n : ℕ) → hasRow c ≡ true → unpacked n ≡ clusterRow c → rowFrom c n ≡ rowBy c
-unfolding rowBy
-row-from c n has is = simp (ne-eqb n 0 (λ z. some (rw z refl))) (simp (ne-eqb (n % 512) 0 some) at (ap asRow is))
+-- so the number in the tables has a first letter
+pub row-packed : (table : List ℕ) → Rows table → (c k : ℕ) → Numbered c k → Packs c (getD table k 0)
+row-packed table rows c k is = packs some here
   where
-    some : n % 512 ≡ 0 → ⊥
+    here : unpacked (getD table k 0) ≡ clusterRow c
+    here = row-unpacked table rows k (is .small) ∙ ap clusterRow (is .code)
+
+    some : getD table k 0 % 512 ≡ 0 → ⊥
     some z =
-        first-nonzero (letters-nonzero c (λ e. omega (arith, e, row-least c has))) (letters-least c)
-        (sym (ap (λ (row : List ℕ). getD row 0 0) is) ∙ rw z)
+        first-nonzero (letters-nonzero c (λ e. omega (arith, e, row-least c (has-row c k is)))) (letters-least c)
+        (sym (ap (λ (row : List ℕ). getD row 0 0) here) ∙ rw z)
 
--- THE ROW OF A CODE IS READ FROM ITS NUMBER; what has no row is alone
-pub row-numbered : (table : List ℕ) → Rows table → (c k : ℕ) → Numbered c k → rowFrom c (getD table k 0) ≡ rowBy c
-row-numbered table rows c k is =
-    row-from c (getD table k 0) (has-row c k is) (row-unpacked table rows k (is .small) ∙ ap clusterRow (is .code))
-
-pub row-outside : (c : ℕ) → hasRow c ≡ false → rowFrom c 0 ≡ rowBy c
+-- what has no row is alone
+row-outside : (c : ℕ) → hasRow c ≡ false → asRow (c ∷ []) ≡ rowBy c
 unfolding rowBy
 row-outside c e = rw (letters-outside c e)
+
+-- THE ROW OF A CODE IS READ FROM ITS NUMBER, and 0 says that the code is alone
+module _ {c n : ℕ} where
+  pub row-read : Packs c n → (n ≡ 0 → ⊥) → {b d : ℕ} → b ≡ letterIn (n / 512 % 512) → d ≡ letterIn (n / 262144 % 512)
+      → record { first = 0x10FF + n % 512; second = b; third = d } ≡ rowBy c
+  unfolding rowBy
+  row-read (packs some is) h second third = rw (second, third) (simp (ne-eqb (n % 512) 0 some) at (ap asRow is))
+  row-read (packs-none z off) h second third = absurd (h z)
+
+  pub row-alone : Packs c n → n ≡ 0 → asRow (c ∷ []) ≡ rowBy c
+  row-alone (packs some is) z = absurd (some (rw z refl))
+  row-alone (packs-none z off) e = row-outside c off
 
 -- ---- the letters of a row by value
 

@@ -1,24 +1,23 @@
--- What helpers promise. In order: a row by its number (`rowFrom`); the spans in which a cluster is
+-- What helpers promise. In order: a row as one number (`Packs`); the spans in which a cluster is
 -- looked for (`In`, `Covers`), what the search answers (`Searched`, `orZero`); gathering as a
 -- machine that carries the letters not yet decided, and a step of it; joining after it, and the
 -- parts of each code point before it, as one machine (`coded`); what is written with both states by
 -- value (`Joined`, `Turned`).
 use mathlib.Core.Path.{_≡_}
-use mathlib.Core.Bool.{cond}
+use mathlib.Core.Bool.{false}
 use mathlib.Core.Logic.{_⊎_}
 use mathlib.Core.Option.{Option, none, some}
 use mathlib.Core.List.{List, [], _∷_, _++_}
-use Prim.Native.Nat.{ℕ, _+_, _/_, _%_, _≤_, _<_}
-use lib.Dec.{eqb}
+use Prim.Native.Nat.{ℕ, _%_, _≤_, _<_}
 use lib.ListN.{length}
 use Rattle.laws.specs.Lists.{All}
 use Rattle.laws.specs.Machines.{Machine, chained, fed, outs, ends}
 use Rattle.joining.specs.Joining.{joiner}
 use Rattle.joining.specs.Answers.{emitted}
 use Rattle.joining.specs.declared.joiner.Open.{Open}
-use Rattle.clusters.specs.Table.{lettersOf}
+use Rattle.clusters.specs.Table.{lettersOf, hasRow, clusterRow}
 use Rattle.clusters.specs.Simple.{simpleOf}
-use Rattle.clusters.specs.Rows.{letterIn, asRow, rowBy}
+use Rattle.clusters.specs.Rows.{unpacked, rowBy}
 use Rattle.clusters.specs.Gathering.{twoOf, threeOf, longest}
 use Rattle.clusters.specs.declared.table.Row.{Row}
 use Rattle.clusters.specs.declared.gather.Span.{Span}
@@ -28,11 +27,12 @@ use Rattle.clusters.specs.declared.gather.Gathered.{Gathered}
 use Rattle.laws.specs.Writing.{Room, Wrote}
 use Rattle.clusters.specs.declared.gathered.Writer.{Writer}
 
--- ---- a row
+-- ---- a row as one number
 
--- by its number, which has a first letter; 0 stands for no row, and then the code is alone
-abbrev pub rowFrom : ℕ → ℕ → Row
-rowFrom c n = asRow (cond (eqb n 0) (c ∷ []) ((0x10FF + n % 512) ∷ letterIn (n / 512 % 512) ∷ letterIn (n / 262144 % 512) ∷ []))
+-- n unpacks to the row of the code, and so has a first letter; or it is 0, and the code has no row
+pub data Packs (c n : ℕ) : Type 0 where
+  packs : (n % 512 ≡ 0 → ⊥) → unpacked n ≡ clusterRow c → Packs c n
+  packs-none : n ≡ 0 → hasRow c ≡ false → Packs c n
 
 -- ---- the search
 

@@ -4,7 +4,7 @@ ghost use mathlib.Core.Path.{_≡_};
 ghost use Prim.Native.Nat.{_≤_, _<_};
 ghost use Rattle.laws.specs.Writing.{front};
 ghost use Rattle.clusters.specs.Rows.{letterIn, rowsIn, tableCodes, extendedCodes, rowsOf, Rows, rowBy};
-ghost use Rattle.clusters.specs.Inner.{rowFrom};
+ghost use Rattle.clusters.specs.Inner.{Packs};
 ghost use lib.ListN.{length};
 
 // A row as one number. Each letter takes nine bits, the first the lowest: 0 for no letter, else the
@@ -32,7 +32,7 @@ fn letter(bits: u32) -> u32
 // The row of a code as one number, or 0 if it has none.
 fn packed_at(table: &[Cell], code: u32) -> Cell
     requires { ⌜ Rows (now table) ⌝ }
-    ensures { λ r. ⌜ rowFrom code r ≡ rowBy code ⌝ }
+    ensures { λ r. ⌜ Packs code r ⌝ }
 {
     match code {
         0x1100..=0x11FF => table[(code - 0x1100) as usize],
