@@ -1,5 +1,7 @@
 // Refusals, answers, the checks of a text, and how an answer fits a lent buffer (document 01,
 // 'Refusal numbers').
+#![tactic(auto)]
+
 mod answer;
 mod check;
 mod refusal;

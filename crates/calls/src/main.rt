@@ -1,5 +1,7 @@
 // calls: one door to the calls of docs/CALLS.md, for an independent program to drive. Reads
 // calls on standard input and writes answers on standard output; the work is the library's.
+#![tactic(auto)]
+
 mod heads;
 mod kinds;
 mod labelled;

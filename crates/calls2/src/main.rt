@@ -1,5 +1,7 @@
 // calls2: the same door as `calls`, to the kinds of docs/CALLS.md from 20 on. It is a program of
 // its own since `calls` takes long to prove.
+#![tactic(auto)]
+
 mod heads;
 mod kinds;
 

@@ -1,4 +1,6 @@
 // Simple letters and clusters (document 01, 'Simple letters and clusters').
+#![tactic(auto)]
+
 mod gather;
 mod gathered;
 mod simple;

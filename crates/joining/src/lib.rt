@@ -1,4 +1,6 @@
 // Joining letters into syllables (document 01, 'Syllables').
+#![tactic(auto)]
+
 mod joiner;
 mod role;
 mod text;

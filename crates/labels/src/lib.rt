@@ -1,5 +1,7 @@
 // The label file: records of 96 bytes, read, judged and written in their places (document 01, 'The
 // label file').
+#![tactic(auto)]
+
 mod image;
 mod layout;
 mod read;

@@ -1,7 +1,7 @@
 -- Laws of tests. In order: a goal by cases on a test with its equation in hand (`test`), a test as
 -- a type (`T_true`, `true-T`); what `a && b` and `a || b` say of a and of b.
 use mathlib.Core.Path.{◌≡◌, refl, sym, ◌∙◌}
-use mathlib.Core.Bool.{Bool, true, false, not, ◌&&◌, ◌||◌, false≢true}
+use mathlib.Core.Bool.{Bool, true, false, ◌&&◌, ◌||◌, false≢true}
 use mathlib.Core.Logic.{◌⊎◌, inl, inr}
 use lib.Dec.{T}
 

@@ -18,7 +18,7 @@ use borrow.Author.Tests.{le-leb, lt-leb}
 use Rattle.laws.specs.Writing.{front, Room, fitted, Wrote, Fronts}
 use Rattle.laws.specs.Lists.{each}
 use Rattle.laws.specs.Machines.{Machine, from}
-use Rattle.laws.proofs.Lists.{at-index, each_next, each-end}
+use Rattle.laws.proofs.Lists.{at-index, each_next}
 
 -- ---- a piece
 
@@ -176,7 +176,8 @@ module _ {A : Type 0} where
   filling-sets : {whole rest out₀ out : List A} {k : ℕ} (xs : List A) → length whole ≤ length out₀ → Filling whole (xs ++ rest) out₀ out k
       → Filling whole rest out₀ (sets out k xs) (k + length xs)
   filling-sets [] h f = rw add-zero f
-  filling-sets {k = k} (x ∷ xs) h f = rw (add-suc, ← (suc-add k (length xs))) (filling-sets xs h (filling-set x h f))
+  filling-sets {out = out} {k = k} (x ∷ xs) h f =
+      rw (add-suc, ← (suc-add k (length xs))) (filling-sets {out = set {A = A} out k x} xs h (filling-set x h f))
 
   -- the next piece has room
   pub filling-room : {whole left xs rest out₀ out : List A} {k : ℕ} → length whole ≤ length out₀ → Filling whole left out₀ out k → Piece left xs rest

@@ -2,7 +2,7 @@
 -- between two bounds; and where a number lies whose value is known. In order: `within`; `look`
 -- forwards (`look-between`, `look-above`); `look` backwards (`look-inside`, and with any statement
 -- of the value `look-cases`).
-use mathlib.Core.Path.{◌≡◌, refl, sym, ◌∙◌, ap}
+use mathlib.Core.Path.{◌≡◌, refl}
 use mathlib.Core.Bool.{Bool, true, false, cond, ◌&&◌, ◌||◌}
 use mathlib.Core.Logic.{◌⊎◌, inl, inr, ⊎_elim}
 use mathlib.Core.List.{List, [], ◌∷◌}

@@ -1,8 +1,8 @@
 -- A table's rule by one computed test: a test that antt computes over the whole table, and one law
 -- that turns it into the rule at each entry. In order: every entry passes (`every-at`); no two
 -- entries are equal (`distinct-at`); what is none of the entries is absent (`absent-all`).
-use mathlib.Core.Path.{◌≡◌, refl, sym, ap, ◌∙◌}
-use mathlib.Core.Bool.{Bool, true, false, not, ◌&&◌}
+use mathlib.Core.Path.{◌≡◌, refl, sym, ap}
+use mathlib.Core.Bool.{Bool, true, not, ◌&&◌}
 use mathlib.Core.List.{List, [], ◌∷◌}
 use Prim.Native.Nat.{ℕ, zero, suc, ◌+◌, ◌<◌}
 use native.Mathlib.Nat.{add-zero, zero-add, add-suc, suc-add, le_of_suc-le-suc, not-suc-le-zero}

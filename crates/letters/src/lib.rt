@@ -1,5 +1,7 @@
 // Code points and syllables: the sort of a code point, one step of taking it apart, the full parts
 // of a code point and of a text (document 01, 'Sorts of characters', 'Syllables').
+#![tactic(auto)]
+
 mod parts;
 mod sort;
 mod step;

@@ -1,5 +1,7 @@
 // lister: lists the characters of the text on standard input, a line each (document 01,
 // 'Programs'). It reads, calls and writes; the list is crate listing's.
+#![tactic(auto)]
+
 use answers::Filled;
 
 // One byte more than the limit, so that a text over the limit shows.

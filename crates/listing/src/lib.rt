@@ -1,4 +1,6 @@
 // The list of a text's characters, a line each (document 01, 'Programs', the lister).
+#![tactic(auto)]
+
 mod hex;
 mod lines;
 

@@ -1,4 +1,6 @@
 // Mending: bytes read, joined and written as UTF-8 in one pass (document 01, 'Bytes').
+#![tactic(auto)]
+
 mod character;
 mod fast;
 mod length;

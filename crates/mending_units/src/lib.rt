@@ -1,5 +1,7 @@
 // Mending of UTF-16, for the clipboard (document 02, #101): a text of units read, joined and
 // written as units, in one pass.
+#![tactic(auto)]
+
 mod character;
 mod length;
 mod lone;

@@ -1,4 +1,6 @@
 // The names of syllables, written and read (document 01, 'Names').
+#![tactic(auto)]
+
 mod read;
 mod strings;
 mod write;

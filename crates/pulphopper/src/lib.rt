@@ -1,4 +1,6 @@
 // The calls for C, and nothing else: include/pulphopper.h declares and documents them.
+#![tactic(auto)]
+
 mod answer;
 mod calls;
 

@@ -1,5 +1,7 @@
 // ranker: prints the record numbers of the label file on standard input in the order of their
 // labels (document 01, 'Programs'). It reads, calls and writes; the lines are sorting::lines'.
+#![tactic(auto)]
+
 use answers::Refusal;
 use labels::Judged;
 

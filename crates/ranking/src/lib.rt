@@ -1,4 +1,6 @@
 // Which of two labels comes first (document 01, 'Ranking labels').
+#![tactic(auto)]
+
 mod bytes;
 mod compare;
 mod order;

@@ -1,5 +1,7 @@
 // UTF-16 (document 02, #101; The Unicode Standard, section 3.9). A unit is a number of 16 bits,
 // with no order of bytes.
+#![tactic(auto)]
+
 mod decode;
 mod encode;
 mod text;

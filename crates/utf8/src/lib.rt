@@ -1,4 +1,6 @@
 // UTF-8 (document 01, 'Bytes'; The Unicode Standard, section 3.9).
+#![tactic(auto)]
+
 mod decode;
 mod encode;
 mod text;

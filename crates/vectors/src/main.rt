@@ -1,6 +1,8 @@
 // vectors: answers test vectors, each line of standard input with a line of standard output. It
 // judges no answer: the gate compares them with crates/vectors/stdout, which tests/vectors makes
 // from the published files and tests/cases.txt.
+#![tactic(auto)]
+
 mod operand;
 mod put;
 mod single;

@@ -1,6 +1,8 @@
 // wire: the wire form of the test programs `calls` and `calls2` (docs/CALLS.md). Numbers of 32 bits
 // and units of 16, low byte first; the eight numbers of a call and the four of an answer; and the
 // fill of a lent buffer. Every function takes every input.
+#![tactic(auto)]
+
 mod head;
 mod lent;
 mod numbers;
