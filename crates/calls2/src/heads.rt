@@ -57,7 +57,7 @@ pub(crate) fn next() -> Head {
 // The sizes of a call: the bytes that come in, and the code points or the units that these are; the
 // code points or the units that are lent; and where all that is written ends, the answer's numbers
 // first.
-#[derive(Drop)]
+#[derive(Clone, Copy)]
 pub(crate) struct Sizes {
     pub bytes: usize,
     pub codes: usize,

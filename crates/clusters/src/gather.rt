@@ -27,7 +27,7 @@ pub(crate) struct Gathered {
 }
 
 // The letters not yet decided: at most two, since no cluster has more than three.
-#[derive(Drop)]
+#[derive(Clone, Copy)]
 pub(crate) enum Pending {
     Nothing,
     One(u32),

@@ -10,7 +10,7 @@ ghost use Rattle.clusters.specs.Inner.{Packs};
 pub(crate) type Cell = u32;
 
 // A row: the first letter, and the second and third or 0.
-#[derive(Drop)]
+#[derive(Clone, Copy)]
 pub(crate) struct Row {
     pub first: u32,
     pub second: u32,

@@ -9,7 +9,7 @@ ghost use Rattle.joining.specs.declared.joiner.Open.TheVariants.{Nothing};
 use crate::role::Role;
 
 // What is still open: nothing, an initial, or an LV.
-#[derive(Drop)]
+#[derive(Clone, Copy)]
 pub enum Open {
     Nothing,
     Initial(u32),

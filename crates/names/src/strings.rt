@@ -4,7 +4,7 @@ ghost use Rattle.std.specs.Prelude.{◌≡◌, ◌/◌, ◌<◌, length};
 ghost use Rattle.names.specs.Inner.{part_at, InitialRows, PeakRows, FinalRows};
 
 // A string of at most three bytes.
-#[derive(Drop)]
+#[derive(Clone, Copy)]
 pub(crate) struct Part {
     pub first: u8,
     pub second: u8,

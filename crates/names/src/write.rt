@@ -12,7 +12,7 @@ use crate::strings::Part;
 use answers::{Filled, Refusal};
 
 // I, P and F.
-#[derive(Drop)]
+#[derive(Clone, Copy)]
 pub(crate) struct Indices {
     pub initial: usize,
     pub peak: usize,

@@ -8,7 +8,7 @@ ghost use Rattle.ranking.specs.declared.compare.Front.TheVariants.{Digit, Other}
 use crate::order::Order;
 
 // How far ranking has come in the two texts.
-#[derive(Drop)]
+#[derive(Clone, Copy)]
 pub(crate) struct At {
     pub state: State,
     pub first: usize,
@@ -27,7 +27,7 @@ pub(crate) struct Move {
 // number is open in both, and only zeros of it have passed. `Number`: a number is open in both,
 // equally many digits of both have passed, the first of them not zero, and these digits compare so.
 // `Done`: the answer.
-#[derive(Drop)]
+#[derive(Clone, Copy)]
 pub(crate) enum State {
     Apart,
     Zeros,
@@ -44,7 +44,7 @@ pub(crate) struct Next {
 
 // What stands in front of what is left of a label: nothing, a digit by its value, or another code
 // point.
-#[derive(Drop)]
+#[derive(Clone, Copy)]
 pub(crate) enum Front {
     End,
     Digit(u32),

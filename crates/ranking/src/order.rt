@@ -5,7 +5,7 @@ ghost use Rattle.ranking.specs.Ranking.{by_value, then_by, order_number};
 use answers::Refusal;
 
 // Where the first of two labels stands.
-#[derive(Drop)]
+#[derive(Clone, Copy)]
 pub enum Order {
     Before,
     Equal,

@@ -10,7 +10,7 @@ const CODES: usize = 64;
 // Seven for each code: no call of document 01 makes more.
 const MADE: usize = 7 * CODES;
 
-#[derive(Drop)]
+#[derive(Clone, Copy)]
 pub(crate) enum Text {
     Join,
     Parts,

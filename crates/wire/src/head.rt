@@ -4,7 +4,7 @@ ghost use Rattle.wire.specs.Messages.{head_of};
 
 use crate::numbers::number_at;
 
-#[derive(Drop)]
+#[derive(Clone, Copy)]
 pub struct Head {
     pub kind: u32,
     pub x: u32,
