@@ -1,0 +1,15 @@
+-- `answers::check::first_bad` meets its contract. The loop's invariant: i and the first bad one of
+-- what is left make up the index wanted.
+use mathlib.Core.Path.{◌≡◌, sym, ◌∙◌}
+use Prim.Native.Nat.{◌≤◌, ◌-◌, ◌+◌}
+use lib.ListN.{length, drop}
+use borrow.Author.Rules.{rules}
+use Rattle.answers.specs.Checks.{bad, first_bad}
+use Rattle.laws.proofs.Lists.{first_next, first-here, first-end}
+use Rattle.answers.proofs.check.first_bad.Given as goal
+
+abbrev pub invariant-loop-i : goal.invariant-loop-i
+invariant-loop-i l = (l.i ≤ length l.text) × (l.i + first_bad (drop l.i l.text) ≡ first_bad l.text)
+
+abbrev pub decreases-loop-i : goal.decreases-loop-i
+decreases-loop-i l = length l.text - l.i

@@ -1,0 +1,23 @@
+-- `clusters::gather::span_of` meets its contract: the span of the letter's place, or any where it
+-- is in no cluster.
+use mathlib.Core.Path.{refl}
+use mathlib.Core.Logic.{⊎_elim}
+use native.Mathlib.Omega.{arith}
+use Rattle.clusters.proofs.Clustering.{covers-when}
+use borrow.Author.Rules.{rules}
+use Rattle.clusters.proofs.gather.span_of.Goals as goal
+
+pub returns-in-4352-to-4446 : goal.returns-in-4352-to-4446
+returns-in-4352-to-4446 c = covers-when _ _ (λ l h. refl) (λ l h. absurd (omega arith)) (λ l h. absurd (omega arith))
+
+pub returns-in-4449-to-4519 : goal.returns-in-4449-to-4519
+returns-in-4449-to-4519 c = covers-when _ _ (λ l h. absurd (omega arith)) (λ l h. refl) (λ l h. absurd (omega arith))
+
+pub returns-in-4520-to-4607 : goal.returns-in-4520-to-4607
+returns-in-4520-to-4607 c = covers-when _ _ (λ l h. absurd (omega arith)) (λ l h. absurd (omega arith)) (λ l h. refl)
+
+pub returns-in_default : goal.returns-in_default
+returns-in_default c = ⊎_elim (λ w. covers-when _ _ (λ l h. absurd (omega arith)) (λ l h. absurd (omega arith)) (λ l h. absurd (omega arith)))
+    (⊎_elim (λ w. covers-when _ _ (λ l h. absurd (omega arith)) (λ l h. absurd (omega arith)) (λ l h. absurd (omega arith)))
+    (λ w. covers-when _ _ (λ l h. absurd (omega arith)) (λ l h. absurd (omega arith)) (λ l h. absurd (omega arith))))
+    c.in_default.branch

@@ -1,0 +1,16 @@
+-- `clusters::gathered::put_rest` meets its contract: what the gatherer holds goes through the
+-- joiner, and then what the joiner holds.
+use Rattle.clusters.proofs.Writing.{room-rest, room-last, wrote-rest}
+use Rattle.laws.proofs.Filling.{wrote-all}
+use borrow.Author.Rules.{rules}
+use Rattle.clusters.proofs.gathered.put_rest.Goals as goal
+
+pub put_codes-next-requires : goal.put_codes-next-requires
+put_codes-next-requires c = room-rest c.args.writer c.flush.ensures c.requires.rest_room
+
+pub returns : goal.returns
+returns c = let writer = c.args.writer in
+    let last = c.flush-2.ensures in
+    let flushed = c.flush.ensures in
+    let joined = c.put_codes-next.ensures in
+    wrote-rest writer flushed joined last (wrote-all (room-last writer flushed joined last c.requires.rest_room) c.put.ensures)

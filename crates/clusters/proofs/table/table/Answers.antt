@@ -1,0 +1,11 @@
+-- `clusters::table::table` meets its contract: both tables, one after the other.
+use mathlib.Core.Path.{refl}
+use lib.ListN.{replicate}
+use Rattle.clusters.proofs.Rows.{both-rows}
+use borrow.Author.Rules.{rules}
+use Rattle.clusters.proofs.table.table.Goals as goal
+
+pub returns : goal.returns
+returns c = let first = c.table_rows-first.ensures in
+    let second = c.extended_rows-second.ensures in
+    both-rows (replicate 357 0) _ _ first.1 second.1 first.0 second.0 refl c.copy.ensures c.copy-2.ensures

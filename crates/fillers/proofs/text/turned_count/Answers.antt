@@ -1,0 +1,41 @@
+use Rattle.fillers.proofs.Turned.{turned-most, copied-piece, group-piece, group-inside, turned-end}
+use Rattle.fillers.specs.Groups.{turned}
+use Rattle.laws.proofs.Filling.{Counting, counting-none, counting_more, counting-all}
+use lib.ListN.{length, drop}
+use Prim.Native.Nat.{◌-◌, ◌≤◌}
+use mathlib.Core.Logic.{⊎_elim}
+use mathlib.Core.Path.{refl}
+use native.Mathlib.Omega.{arith}
+use borrow.Author.Rules.{rules}
+use Rattle.fillers.proofs.text.turned_count.Goals as goal
+
+pub loop-read-init : goal.loop-read-init
+loop-read-init c = (search rules, counting-none _)
+
+pub overflow_add-count : goal.overflow_add-count
+overflow_add-count c = omega (
+      arith,
+      c.loop-read.invariant.1.sum,
+      turned-most c.args.text.now,
+    )
+
+pub loop-read-smaller : goal.loop-read-smaller
+loop-read-smaller c = ⊎_elim (λ w. omega arith) (λ w. omega arith) c.if-syllable-eq0.branch
+
+pub loop-read-preserved : goal.loop-read-preserved
+loop-read-preserved c = let found = c.group_at-syllable.ensures in
+    ⊎_elim
+    (λ w. rw w.1 (
+      omega arith,
+      counting_more c.loop-read.invariant.1
+          (copied-piece _ _ c.loop-read-test.true found w.0.taken) refl,
+    ))
+    (λ w. rw w.1 (
+      omega (arith, group-inside _ _ c.loop-read-test.true found w.0.left),
+      counting_more c.loop-read.invariant.1
+          (group-piece _ _ c.loop-read-test.true found w.0.left) refl,
+    ))
+    c.if-syllable-eq0.branch
+
+pub returns : goal.returns
+returns c = counting-all c.loop-read.invariant.1 (turned-end _ _ c.loop-read-test.false)

@@ -1,0 +1,14 @@
+-- `joining::joiner::written` meets its contract: each return knows what is open.
+use Rattle.joining.specs.Joining.{held}
+use mathlib.Core.Path.{sym, ◌∙◌, ap}
+use borrow.Author.Rules.{rules}
+use Rattle.joining.proofs.joiner.written.Goals as goal
+
+pub returns-in-Nothing : goal.returns-in-Nothing
+returns-in-Nothing c = sym (ap held c.in-Nothing.is)
+
+pub returns-in-Initial : goal.returns-in-Initial
+returns-in-Initial c = sym (ap held c.in-Initial.is)
+
+pub returns-in-Lv : goal.returns-in-Lv
+returns-in-Lv c = sym (ap held c.in-Lv.is)

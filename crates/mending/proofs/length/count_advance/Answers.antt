@@ -1,0 +1,21 @@
+-- `mending::length::count_advance` meets its contract: what is spelled in letters is the character
+-- at the index, or one turn is left to `count_pass`.
+use Rattle.utf8.proofs.Round.{encodes8}
+use Rattle.mending.proofs.Turns.{count_fits, count-character}
+use Rattle.mending.proofs.Characters.{character-next}
+use borrow.Author.Rules.{rules}
+use Rattle.mending.proofs.length.count_advance.Goals as goal
+
+pub count_pass-requires : goal.count_pass-requires
+count_pass-requires c = c.requires
+
+pub returns-then-spelled-eq0 : goal.returns-then-spelled-eq0
+returns-then-spelled-eq0 c = c.count_pass.ensures
+
+pub count_place-requires : goal.count_place-requires
+count_place-requires c = count_fits c.requires
+    (character-next encodes8 _ _ c.requires.inside (c.spelled_at-spelled.ensures.value c.if-spelled-eq0.false))
+
+pub returns : goal.returns
+returns c = count-character (character-next encodes8 _ _ c.requires.inside
+    (c.spelled_at-spelled.ensures.value c.if-spelled-eq0.false)) c.count_place.ensures

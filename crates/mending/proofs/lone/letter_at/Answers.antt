@@ -1,0 +1,23 @@
+-- `mending::lone::letter_at` meets its contract: nothing found, or a letter that is no modern
+-- initial or has no modern peak after it.
+use Rattle.mending.proofs.Alone.{letter-triple, letter-character}
+use Rattle.mending.proofs.FastPaths.{spelled_none}
+use native.Mathlib.Omega.{arith}
+use mathlib.Core.Logic.{⊎_elim}
+use mathlib.Core.Path.{sym, ◌∙◌}
+use borrow.Author.Rules.{rules}
+use Rattle.mending.proofs.lone.letter_at.Goals as goal
+
+pub returns-then-tail-lt33920 : goal.returns-then-tail-lt33920
+returns-then-tail-lt33920 c = record { value = spelled_none c.none.ensures; triple = spelled_none c.none.ensures }
+
+pub returns-then-tail-gt34751 : goal.returns-then-tail-gt34751
+returns-then-tail-gt34751 c = record { value = spelled_none c.none-then-tail-gt34751.ensures; triple = spelled_none c.none-then-tail-gt34751.ensures }
+
+pub returns-then-is_peak_at : goal.returns-then-is_peak_at
+returns-then-is_peak_at c = record { value = spelled_none c.none-then-is_peak_at.ensures; triple = spelled_none c.none-then-is_peak_at.ensures }
+
+pub returns : goal.returns
+returns c = record { value = (λ n. letter-character _ _ c.tail_at-tail.ensures (c.letter_of.ensures n) (λ h. ⊎_elim (λ w. sym
+      w.1.ensures ∙ w.2.left) (λ w. absurd (omega (arith, h, w.left))) c.if-tail-le33938.branch)); triple = (λ n. letter-triple
+      (c.letter_of.ensures n)) }

@@ -1,0 +1,15 @@
+use native.Mathlib.Omega.{arith}
+use Prim.Native.Nat.{◌-◌}
+use lib.ListN.{length}
+use borrow.Author.Tests.{not-false}
+use borrow.Author.Rules.{rules}
+use Rattle.mending.proofs.Turns.{passes_none, passes_on}
+use Rattle.mending_units.specs.Inner.{PassesUnits}
+use Rattle.mending_units.proofs.Passes.{plain-four}
+use Rattle.mending_units.proofs.unchanged.fours.Goals as goal
+
+pub loop-at-init : goal.loop-at-init
+loop-at-init c = search (rules, passes_none)
+
+pub loop-at-preserved : goal.loop-at-preserved
+loop-at-preserved c = passes_on c.loop-at.invariant (plain-four _ _ (omega arith) (c.are_plain.ensures (not-false _ c.if-not-are_plain.false)))

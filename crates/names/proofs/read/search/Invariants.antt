@@ -1,0 +1,29 @@
+-- `names::read::search` meets its contract. Each loop keeps that no row which it has passed gives
+-- the name, and that what stands before fits wherever it looks at a row.
+use native.Mathlib.Omega.{arith}
+use Rattle.names.proofs.Search.{Finals, finals-none, finals-more, finals-found, prefix-long, initial-long, peak-long, Initials, initials-none, initials-more, initials-all, Peaks, peaks-none, peaks-more}
+use Rattle.names.proofs.Rows.{row_inside, spelled}
+use Prim.Native.Nat.{◌-◌}
+use borrow.Author.Rules.{rules}
+use Rattle.names.proofs.read.search.Given as goal
+
+abbrev pub invariant-loop-f : goal.invariant-loop-f
+invariant-loop-f l = Finals l.name l.i l.initial' l.p l.peak l.f
+
+abbrev pub decreases-loop-f : goal.decreases-loop-f
+decreases-loop-f l = 28 - l.f
+
+abbrev pub invariant-loop-p : goal.invariant-loop-p
+invariant-loop-p l = Peaks l.name l.i l.initial' l.p
+
+abbrev pub decreases-loop-p : goal.decreases-loop-p
+decreases-loop-p l = 21 - l.p
+
+abbrev pub invariant-search : goal.invariant-search
+invariant-search l = Initials l.name l.i
+
+abbrev pub decreases-search : goal.decreases-search
+decreases-search l = 19 - l.i
+begins-so-requires :
+    tie.Need-begins-so-requires invariant-loop2 decreases-loop2 invariant-loop decreases-loop invariant-search decreases-search
+begins-so-requires c κs = search rules

@@ -1,0 +1,13 @@
+-- `sorting::compare::by_label` meets its contract: no label is over the limit, so ranking refuses
+-- none.
+use Rattle.sorting.proofs.Standing.{labels-rank, labels-refused}
+use borrow.Author.Rules.{rules}
+use Rattle.sorting.proofs.compare.by_label.Goals as goal
+
+pub returns-in-Stands : goal.returns-in-Stands
+returns-in-Stands c = labels-rank _ _ _ c.label_at.ensures c.label_at-2.ensures
+    c.rank_bytes-ranked.ensures c.in-Stands.is
+
+pub returns-in-Refused : goal.returns-in-Refused
+returns-in-Refused c = absurd (labels-refused _ _ _ c.label_at.ensures c.label_at-2.ensures
+    c.rank_bytes-ranked.ensures c.in-Refused.is)

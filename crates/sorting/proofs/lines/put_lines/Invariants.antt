@@ -1,0 +1,16 @@
+-- `sorting::lines::put_lines` meets its contract. The loop's invariant: what is written and what is
+-- left make up all lines.
+use Rattle.sorting.proofs.NumberLines.{line-piece, line-end}
+use Rattle.sorting.specs.Printing.{number_line}
+use Rattle.laws.proofs.Filling.{Filling, filling-none, filling-length, filling-room, filling-more, filling-all}
+use Rattle.laws.specs.Lists.{each}
+use lib.ListN.{take, drop}
+use Prim.Native.Nat.{◌≤◌, ◌-◌}
+use borrow.Author.Rules.{rules}
+use Rattle.sorting.proofs.lines.put_lines.Given as goal
+
+abbrev pub invariant-loop-read : goal.invariant-loop-read
+invariant-loop-read l = (l.read ≤ l.count) × Filling (each number_line (take l.count l.numbers)) (each number_line (drop l.read (take l.count l.numbers))) l.initial.out l.out l.at
+
+abbrev pub decreases-loop-read : goal.decreases-loop-read
+decreases-loop-read l = l.count - l.read

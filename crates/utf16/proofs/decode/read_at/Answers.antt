@@ -1,0 +1,24 @@
+-- `utf16::decode::read_at` meets its contract: the end, a high surrogate, a low one, or neither.
+use mathlib.Core.Path.{refl, ◌∙◌}
+use native.Mathlib.Omega.{arith}
+use Rattle.utf16.proofs.Takes.{at-end, at_low, at_high, at-unpaired-low, begins-pair}
+use borrow.Author.Rules.{rules}
+use Rattle.utf16.proofs.decode.read_at.Goals as goal
+
+pub returns-then-text-at : goal.returns-then-text-at
+returns-then-text-at c = at-end _ _ c.if-text-at.true
+
+pub overflow_cast-first : goal.overflow_cast-first
+overflow_cast-first c = omega (arith, c.shared_slice_known-2-1.given c.args.at)
+
+pub read_pair-requires : goal.read_pair-requires
+read_pair-requires c = begins-pair _ _ c.if-text-at.false refl c.if-first-lt55296.false (omega (arith, c.if-first-lt56320.true))
+
+pub returns-in-56320-to-57343 : goal.returns-in-56320-to-57343
+returns-in-56320-to-57343 c = c.unpaired.ensures ∙ at-unpaired-low _ _ c.if-text-at.false refl (omega (arith, c.if-first-lt56320.false)) (omega (arith, c.if-first-lt57344.true))
+
+pub returns-in_default : goal.returns-in_default
+returns-in_default c = at_low _ _ c.if-text-at.false refl c.if-first-lt55296.true
+
+pub returns-in_default-2 : goal.returns-in_default-2
+returns-in_default-2 c = at_high _ _ c.if-text-at.false refl (omega (arith, c.if-first-lt57344.false)) (omega (arith, c.shared_slice_known-2-1.given c.args.at))

@@ -1,0 +1,21 @@
+-- `utf16::text::read_into` meets its contract. The loop's invariant: what is written and what is
+-- left to be read make up the whole, and so do the ill-formed subparts counted and those that are
+-- left.
+use Rattle.encodings.proofs.Reading.{Ills, ills-none, next-piece, next-ills, ills-fit, read-end, ills-end}
+use Rattle.encodings.proofs.Texts.{read-most}
+use Rattle.encodings.proofs.Taking.{taken_next}
+use Rattle.utf16.proofs.Forms.{encodes16}
+use Rattle.utf16.specs.Utf16.{form16, read_units}
+use Prim.Native.Nat.{◌≤◌, ◌-◌}
+use mathlib.Core.Path.{refl}
+use Rattle.laws.proofs.Filling.{Filling, wrote_one, room-one, filling-none, filling-count, filling-length, filling-room, filling-more, filling-all}
+use lib.ListN.{length, drop}
+use native.Mathlib.Omega.{arith}
+use borrow.Author.Rules.{rules}
+use Rattle.utf16.proofs.text.read_into.Given as goal
+
+abbrev pub invariant-loop-read : goal.invariant-loop-read
+invariant-loop-read l = (l.read ≤ length l.text) × Filling (read_units l.text) (read_units (drop l.read l.text)) l.initial.out l.out l.length × Ills form16 l.text l.read l.ills
+
+abbrev pub decreases-loop-read : goal.decreases-loop-read
+decreases-loop-read l = length l.text - l.read

@@ -1,0 +1,14 @@
+-- `utf16::text::read_lacking` meets its contract: one for each unit is enough, or the length is
+-- counted.
+use Rattle.answers.proofs.Checks.{lacking-none, lacking-counted}
+use native.Mathlib.Omega.{arith}
+use Rattle.encodings.proofs.Texts.{read-most}
+use Rattle.utf16.proofs.Forms.{encodes16}
+use borrow.Author.Rules.{rules}
+use Rattle.utf16.proofs.text.read_lacking.Goals as goal
+
+pub returns-then-text-room : goal.returns-then-text-room
+returns-then-text-room c = lacking-none _ _ (omega (arith, read-most encodes16 c.args.text.now, c.if-text-room.true))
+
+pub returns : goal.returns
+returns c = lacking-counted _ _ c.read_count.ensures c.lacking.ensures

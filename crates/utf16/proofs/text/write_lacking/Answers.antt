@@ -1,0 +1,13 @@
+-- `utf16::text::write_lacking` meets its contract: two for each code point are enough, or the
+-- length is counted.
+use Rattle.utf16.proofs.Writing.{write-most}
+use Rattle.answers.proofs.Checks.{lacking-none, lacking-counted}
+use native.Mathlib.Omega.{arith}
+use borrow.Author.Rules.{rules}
+use Rattle.utf16.proofs.text.write_lacking.Goals as goal
+
+pub returns-then-text-room : goal.returns-then-text-room
+returns-then-text-room c = lacking-none _ _ (omega (arith, write-most c.args.text.now, c.if-text-room.true))
+
+pub returns : goal.returns
+returns c = lacking-counted _ _ c.write_count.ensures c.lacking.ensures

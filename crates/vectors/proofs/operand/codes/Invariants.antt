@@ -1,0 +1,14 @@
+-- `vectors::operand::codes` meets its contract and ends. The loop keeps the length, and its count
+-- is at most that.
+use mathlib.Core.Path.{◌≡◌}
+use Prim.Native.Nat.{◌≤◌, ◌-◌}
+use native.Mathlib.Omega.{arith}
+use lib.ListN.{length, length-set}
+use borrow.Author.Rules.{rules}
+use Rattle.vectors.proofs.operand.codes.Given as goal
+
+abbrev pub invariant-loop-count : goal.invariant-loop-count
+invariant-loop-count l = (length l.out ≡ length l.initial.out) × (l.count ≤ length l.initial.out)
+
+abbrev pub decreases-loop-count : goal.decreases-loop-count
+decreases-loop-count l = length l.initial.out - l.count

@@ -1,0 +1,13 @@
+-- `wire::lent::fill` meets its contract. In turn i the elements before i are filled.
+use mathlib.Core.Path.{sym}
+use Prim.Native.Nat.{◌-◌}
+use lib.ListN.{length, replicate, length-replicate, get_or-replicate}
+use Rattle.wire.proofs.Filling.{Overwriting, overwriting-none, overwriting-next, overwriting-all}
+use borrow.Author.Rules.{rules}
+use Rattle.wire.proofs.lent.fill.Given as goal
+
+abbrev pub invariant-loop-i : goal.invariant-loop-i
+invariant-loop-i l = Overwriting (replicate (length l.initial.out) 0xA5A5A5A5) l.initial.out l.out l.i
+
+abbrev pub decreases-loop-i : goal.decreases-loop-i
+decreases-loop-i l = length l.initial.out - l.i

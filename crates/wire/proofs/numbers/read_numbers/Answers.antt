@@ -1,0 +1,17 @@
+use mathlib.Core.Path.{sym, ◌∙◌}
+use Prim.Native.Nat.{◌-◌}
+use lib.ListN.{length}
+use Rattle.wire.specs.Numbers.{numbers_of}
+use Rattle.wire.proofs.Filling.{Overwriting, overwriting-none, overwriting-next, overwriting-all}
+use Rattle.wire.proofs.Elements.{length-elements, elements-at}
+use borrow.Author.Rules.{rules}
+use Rattle.wire.proofs.numbers.read_numbers.Goals as goal
+
+pub loop-i-init : goal.loop-i-init
+loop-i-init c = overwriting-none _ _ (length-elements _ _ _ _)
+
+pub loop-i-preserved : goal.loop-i-preserved
+loop-i-preserved c = overwriting-next 0 c.loop-i.invariant c.loop-i-test.true (λ h. c.number_at.ensures ∙ sym (elements-at _ _ _ _ _ 0 h))
+
+pub returns : goal.returns
+returns c = overwriting-all c.loop-i.invariant c.loop-i-test.false
