@@ -14,6 +14,7 @@ use Rattle.letters.specs.declared.sort.Sort.TheVariants.{ModernInitial, OldIniti
 use Rattle.letters.specs.Sorts.{class_of, make_of, sort_of}
 use Rattle.letters.proofs.Sorts.{sort-between, sort-lv, sort-lvt, Gone, gone-all, strays, sort-apart}
 use Rattle.letters.proofs.sort.sort_of.Goals as goal
+use Rattle.letters.proofs.sort.sort_of.Goals.{in_default-via-then-code-lt44032, in_default-via-else-code-lt44032+else-code-lt55204}
 
 abbrev singles : List ℕ
 singles =
@@ -156,30 +157,30 @@ returns-in-4601 c = sort-between 0x11F9 0x11F9 tt (omega arith) (omega arith)
 
 pub returns-in-4354-to-4355 : goal.returns-in-4354-to-4355
 unfolding count sort_of class_of make_of within
-returns-in-4354-to-4355 c = apart (ModernInitial Simple) 0x1100 4 refl c.in_default-1.rest (omega arith) (omega arith)
+returns-in-4354-to-4355 c = apart (ModernInitial Simple) 0x1100 4 refl c.in-4354-to-4355.in_default-own.rest (omega arith) (omega arith)
 
 pub returns-in-4357-to-4359 : goal.returns-in-4357-to-4359
 unfolding count sort_of class_of make_of within
-returns-in-4357-to-4359 c = apart (ModernInitial Simple) 0x1104 4 refl c.in_default-1.rest (omega arith) (omega arith)
+returns-in-4357-to-4359 c = apart (ModernInitial Simple) 0x1104 4 refl c.in-4357-to-4359.in_default-own.rest (omega arith) (omega arith)
 
 pub returns-in-4363-to-4364 : goal.returns-in-4363-to-4364
 unfolding count sort_of class_of make_of within
-returns-in-4363-to-4364 c = apart (ModernInitial Simple) 0x1108 5 refl c.in_default-1.rest (omega arith) (omega arith)
+returns-in-4363-to-4364 c = apart (ModernInitial Simple) 0x1108 5 refl c.in-4363-to-4364.in_default-own.rest (omega arith) (omega arith)
 
 pub returns-in-4366-to-4370 : goal.returns-in-4366-to-4370
 unfolding count sort_of class_of make_of within
-returns-in-4366-to-4370 c = apart (ModernInitial Simple) 0x110D 6 refl c.in_default-1.rest (omega arith) (omega arith)
+returns-in-4366-to-4370 c = apart (ModernInitial Simple) 0x110D 6 refl c.in-4366-to-4370.in_default-own.rest (omega arith) (omega arith)
 
 pub returns-in-4371-to-4411 : goal.returns-in-4371-to-4411
 returns-in-4371-to-4411 c = sort-between 0x1113 0x113B tt (omega arith) (omega arith)
 
 pub returns-in-4417-to-4427 : goal.returns-in-4417-to-4427
 unfolding count sort_of class_of make_of within
-returns-in-4417-to-4427 c = apart (OldInitial Cluster) 0x113C 16 refl c.in_default-1.rest (omega arith) (omega arith)
+returns-in-4417-to-4427 c = apart (OldInitial Cluster) 0x113C 16 refl c.in-4417-to-4427.in_default-own.rest (omega arith) (omega arith)
 
 pub returns-in-4433-to-4435 : goal.returns-in-4433-to-4435
 unfolding count sort_of class_of make_of within
-returns-in-4433-to-4435 c = apart (OldInitial Cluster) 0x114C 8 refl c.in_default-1.rest (omega arith) (omega arith)
+returns-in-4433-to-4435 c = apart (OldInitial Cluster) 0x114C 8 refl c.in-4433-to-4435.in_default-own.rest (omega arith) (omega arith)
 
 pub returns-in-4436-to-4437 : goal.returns-in-4436-to-4437
 returns-in-4436-to-4437 c = sort-between 0x1154 0x1155 tt (omega arith) (omega arith)
@@ -189,11 +190,11 @@ returns-in-4438-to-4440 c = sort-between 0x1156 0x1158 tt (omega arith) (omega a
 
 pub returns-in-4442-to-4446 : goal.returns-in-4442-to-4446
 unfolding count sort_of class_of make_of within
-returns-in-4442-to-4446 c = apart (OldInitial Cluster) 0x1159 6 refl c.in_default-1.rest (omega arith) (omega arith)
+returns-in-4442-to-4446 c = apart (OldInitial Cluster) 0x1159 6 refl c.in-4442-to-4446.in_default-own.rest (omega arith) (omega arith)
 
 pub returns-in-4458-to-4460 : goal.returns-in-4458-to-4460
 unfolding count sort_of class_of make_of within
-returns-in-4458-to-4460 c = apart (ModernPeak Cluster) 0x115F 14 refl c.in_default-1.rest (omega arith) (omega arith)
+returns-in-4458-to-4460 c = apart (ModernPeak Cluster) 0x115F 14 refl c.in-4458-to-4460.in_default-own.rest (omega arith) (omega arith)
 
 pub returns-in-4461-to-4462 : goal.returns-in-4461-to-4462
 returns-in-4461-to-4462 c = sort-between 0x116D 0x116E tt (omega arith) (omega arith)
@@ -206,19 +207,19 @@ returns-in-4466-to-4467 c = sort-between 0x1172 0x1173 tt (omega arith) (omega a
 
 pub returns-in-4470-to-4509 : goal.returns-in-4470-to-4509
 unfolding count sort_of class_of make_of within
-returns-in-4470-to-4509 c = apart (OldPeak Cluster) 0x1174 42 refl c.in_default-1.rest (omega arith) (omega arith)
+returns-in-4470-to-4509 c = apart (OldPeak Cluster) 0x1174 42 refl c.in-4470-to-4509.in_default-own.rest (omega arith) (omega arith)
 
 pub returns-in-4511-to-4519 : goal.returns-in-4511-to-4519
 unfolding count sort_of class_of make_of within
-returns-in-4511-to-4519 c = apart (OldPeak Cluster) 0x119E 10 refl c.in_default-1.rest (omega arith) (omega arith)
+returns-in-4511-to-4519 c = apart (OldPeak Cluster) 0x119E 10 refl c.in-4511-to-4519.in_default-own.rest (omega arith) (omega arith)
 
 pub returns-in-4521-to-4522 : goal.returns-in-4521-to-4522
 unfolding count sort_of class_of make_of within
-returns-in-4521-to-4522 c = apart (ModernFinal Cluster) 0x11A8 3 refl c.in_default-1.rest (omega arith) (omega arith)
+returns-in-4521-to-4522 c = apart (ModernFinal Cluster) 0x11A8 3 refl c.in-4521-to-4522.in_default-own.rest (omega arith) (omega arith)
 
 pub returns-in-4524-to-4525 : goal.returns-in-4524-to-4525
 unfolding count sort_of class_of make_of within
-returns-in-4524-to-4525 c = apart (ModernFinal Cluster) 0x11AB 3 refl c.in_default-1.rest (omega arith) (omega arith)
+returns-in-4524-to-4525 c = apart (ModernFinal Cluster) 0x11AB 3 refl c.in-4524-to-4525.in_default-own.rest (omega arith) (omega arith)
 
 pub returns-in-4526-to-4527 : goal.returns-in-4526-to-4527
 returns-in-4526-to-4527 c = sort-between 0x11AE 0x11AF tt (omega arith) (omega arith)
@@ -231,22 +232,22 @@ returns-in-4535-to-4536 c = sort-between 0x11B7 0x11B8 tt (omega arith) (omega a
 
 pub returns-in-4540-to-4546 : goal.returns-in-4540-to-4546
 unfolding count sort_of class_of make_of within
-returns-in-4540-to-4546 c = apart (ModernFinal Simple) 0x11B9 10 refl c.in_default-1.rest (omega arith) (omega arith)
+returns-in-4540-to-4546 c = apart (ModernFinal Simple) 0x11B9 10 refl c.in-4540-to-4546.in_default-own.rest (omega arith) (omega arith)
 
 pub returns-in-4547-to-4586 : goal.returns-in-4547-to-4586
 returns-in-4547-to-4586 c = sort-between 0x11C3 0x11EA tt (omega arith) (omega arith)
 
 pub returns-in-4588-to-4591 : goal.returns-in-4588-to-4591
 unfolding count sort_of class_of make_of within
-returns-in-4588-to-4591 c = apart (OldFinal Cluster) 0x11EB 5 refl c.in_default-1.rest (omega arith) (omega arith)
+returns-in-4588-to-4591 c = apart (OldFinal Cluster) 0x11EB 5 refl c.in-4588-to-4591.in_default-own.rest (omega arith) (omega arith)
 
 pub returns-in-4593-to-4600 : goal.returns-in-4593-to-4600
 unfolding count sort_of class_of make_of within
-returns-in-4593-to-4600 c = apart (OldFinal Cluster) 0x11F0 9 refl c.in_default-1.rest (omega arith) (omega arith)
+returns-in-4593-to-4600 c = apart (OldFinal Cluster) 0x11F0 9 refl c.in-4593-to-4600.in_default-own.rest (omega arith) (omega arith)
 
 pub returns-in-4602-to-4607 : goal.returns-in-4602-to-4607
 unfolding count sort_of class_of make_of within
-returns-in-4602-to-4607 c = apart (OldFinal Cluster) 0x11F9 7 refl c.in_default-1.rest (omega arith) (omega arith)
+returns-in-4602-to-4607 c = apart (OldFinal Cluster) 0x11F9 7 refl c.in-4602-to-4607.in_default-own.rest (omega arith) (omega arith)
 
 pub returns-in-43360-to-43388 : goal.returns-in-43360-to-43388
 returns-in-43360-to-43388 c = sort-between 0xA960 0xA97C tt (omega arith) (omega arith)
@@ -264,9 +265,10 @@ pub returns-in_default-code-2 : goal.returns-in_default-code-2
 returns-in_default-code-2 c = sort-between 0x1200 0xA95F tt (omega arith) (omega arith)
 
 pub returns-in_default-code-3 : goal.returns-in_default-code-3
-returns-in_default-code-3 c = ⊎_elim (λ w. sort-between 0xA97D 0xABFF tt (omega arith) (omega arith))
-    (λ w. sort-between 0xD7A4 0xD7AF tt (omega arith) (omega arith))
-    c.in_default.branch
+returns-in_default-code-3 c = elim c.in_default.branch [
+  in_default-via-then-code-lt44032 w ↦ sort-between 0xA97D 0xABFF tt (omega arith) (omega arith)
+  | in_default-via-else-code-lt44032+else-code-lt55204 w ↦ sort-between 0xD7A4 0xD7AF tt (omega arith) (omega arith)
+]
 
 pub returns-in_default-code-4 : goal.returns-in_default-code-4
 returns-in_default-code-4 c = sort-between 0xD7C7 0xD7CA tt (omega arith) (omega arith)
