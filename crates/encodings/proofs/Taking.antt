@@ -41,11 +41,11 @@ from-index : (text : List ℕ) (n : ℕ) {b : ℕ} → b ≡ get_or text n 0 →
 from-index text n e h = rw e (drop-cons text n 0 h)
 
 -- what the code's test `!is_within(..)` says of the unit
-pub test-true : {t v : Bool} → t ≡ v → not t ≡ false → v ≡ true
-test-true {t} e h = sym e ∙ not-false t h
+pub test-true : {t v : Bool} → t ≡ v → t ≡ true → v ≡ true
+test-true e h = sym e ∙ h
 
-pub test-false : {t v : Bool} → t ≡ v → not t ≡ true → v ≡ false
-test-false {t} e h = sym e ∙ not-true t h
+pub test-false : {t v : Bool} → t ≡ v → t ≡ false → v ≡ false
+test-false e h = sym e ∙ h
 
 -- ---- a sequence that is begun
 

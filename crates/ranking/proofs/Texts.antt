@@ -28,7 +28,8 @@ use Rattle.encodings.specs.Pieces.{good, pieces}
 use Rattle.encodings.specs.Reading.{good_of}
 use Rattle.encodings.specs.declared.answer.Taken.{Taken}
 use Rattle.encodings.proofs.Rows.{row-between, ends, full_by}
-use Rattle.encodings.proofs.Taking.{test-true, test-false}
+use Rattle.encodings.proofs.Taking.{test-true}
+use borrow.Author.Tests.{not-true}
 use Rattle.encodings.proofs.Texts.{full-piece}
 use Rattle.utf8.specs.Table37.{table37, kind_of}
 use Rattle.utf8.specs.Utf8.{form8}
@@ -328,7 +329,7 @@ module _ (b : ℕ) where
 
   plain-no-digit : is_plain b ≡ true → is_digit b ≡ false
   unfolding is_plain
-  plain-no-digit e = test-false refl (and_right (ltb b 0x80) (not (is_digit b)) e)
+  plain-no-digit e = not-true (is_digit b) (and_right (ltb b 0x80) (not (is_digit b)) e)
 
 pub alike_at : {first second : List ℕ} {i j : ℕ} → i < length first → j < length second → get_or first i 0 ≡ get_or second j 0 → {g : Bool}
     → g ≡ is_plain (get_or first i 0) → g ≡ true → AlikeAt first second i j
@@ -387,7 +388,7 @@ apart-is Zeros e = absurd (false≢true e)
 apart-is (Number o) e = absurd (false≢true e)
 apart-is (Done o) e = absurd (false≢true e)
 
-pub alike-follows : {first second : List ℕ} {s : At} {n : ℕ} {g : Bool} → g ≡ is_apart_as s.state → not g ≡ false
+pub alike-follows : {first second : List ℕ} {s : At} {n : ℕ} {g : Bool} → g ≡ is_apart_as s.state → g ≡ true
     → Alike first second s.first s.second n
     → Follows mended_from first second s (record { state = Apart; first = s.first + n; second = s.second + n })
 alike-follows {first} {second} {s} {n} e h a = record {

@@ -6,6 +6,7 @@ use native.Mathlib.Omega.{arith}
 use Rattle.letters.proofs.Steps.{syllable-yes, syllable-least, syllable-most}
 use Rattle.joining.proofs.Roles.{role-initial, role-peak, role-final, role-lv, role-lvt, role-none}
 use Rattle.joining.proofs.role.role_of.Goals as goal
+use Rattle.joining.proofs.role.role_of.Goals.{in_default-via-then-code-lt44032, in_default-via-else-code-lt44032+else-code-lt55204}
 
 pub returns-in-0-to-4351 : goal.returns-in-0-to-4351
 returns-in-0-to-4351 c = sym (role-none _ (λ h. omega arith) (λ h. omega arith) (λ h. omega arith) (λ s. omega (arith, syllable-least _ s)))
@@ -35,6 +36,8 @@ pub returns-in_default-code-3 : goal.returns-in_default-code-3
 returns-in_default-code-3 c = sym (role-none _ (λ h. omega arith) (λ h. omega arith) (λ h. omega arith) (λ s. omega (arith, syllable-least _ s)))
 
 pub returns-in_default-code-4 : goal.returns-in_default-code-4
-returns-in_default-code-4 c = ⊎_elim (λ w. sym (role-none _ (λ h. omega arith) (λ h. omega arith) (λ h. omega arith) (λ s. omega (arith, w.taken, syllable-least _ s))))
-    (λ w. sym (role-none _ (λ h. omega arith) (λ h. omega arith) (λ h. omega arith) (λ s. omega (arith, w.1.left, syllable-most _ s))))
-    c.in_default.branch
+returns-in_default-code-4 c = elim c.in_default.branch [
+  in_default-via-then-code-lt44032 w ↦ sym (role-none _ (λ h. omega arith) (λ h. omega arith) (λ h. omega arith) (λ s. omega (arith, syllable-least _ s)))
+  | in_default-via-else-code-lt44032+else-code-lt55204 w ↦
+    sym (role-none _ (λ h. omega arith) (λ h. omega arith) (λ h. omega arith) (λ s. omega (arith, syllable-most _ s)))
+]

@@ -20,7 +20,7 @@ loop-read-preserved c = (
 )
 
 pub shape_of-out : goal.shape_of-out
-shape_of-out c = c.put.auto.1.0 ∙ filling-length c.requires
+shape_of-out c = c.put.auto.out ∙ filling-length c.requires
     c.loop-read.invariant.1
 
 pub returns : goal.returns

@@ -25,11 +25,11 @@ returns-then-set-lt96 c = fault-tail c.args.bytes.now
     c.requires
     (omega (arith, c.if-size-gt88.false))
     (omega (arith, c.if-bytes-ne0.false)) c.first_ill-ill.ensures
-    (omega (arith, c.if-ill-size.false)) c.first_set-set.ensures (omega (arith, c.if-set-lt96.true))
+    (omega (arith, c.if-ill-size.false)) c.first_set-set.ensures (omega arith)
 
 pub returns : goal.returns
 returns c = fault-none c.args.bytes.now
     c.requires
     (omega (arith, c.if-size-gt88.false))
     (omega (arith, c.if-bytes-ne0.false)) c.first_ill-ill.ensures
-    (omega (arith, c.if-ill-size.false)) c.first_set-set.ensures (omega (arith, c.if-set-lt96.false))
+    (omega (arith, c.if-ill-size.false)) c.first_set-set.ensures (omega arith)

@@ -15,7 +15,7 @@ pub returns-then-not-is_three : goal.returns-then-not-is_three
 returns-then-not-is_three c = spelled_none c.none-then-not-is_three.ensures
 
 pub three_code-requires : goal.three_code-requires
-three_code-requires c = let h = c.is_three.ensures (not-false _ c.if-not-is_three.false) in record { le_first = omega (arith, h.least); le_second = h.second-least; le_third = h.third-least }
+three_code-requires c = let h = c.is_three.ensures c.if-not-is_three.false in record { le_first = omega (arith, h.least); le_second = h.second-least; le_third = h.third-least }
 
 pub returns : goal.returns
 returns c = λ n.
@@ -23,4 +23,4 @@ returns c = λ n.
     ∙ three-character c.args.text.now
     c.args.at
     (omega (arith, c.if-text-at-lt3.false)) c.byte_at.ensures
-    (c.is_three.ensures (not-false _ c.if-not-is_three.false))
+    (c.is_three.ensures c.if-not-is_three.false)

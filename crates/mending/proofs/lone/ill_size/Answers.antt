@@ -12,7 +12,7 @@ returns-then-first-lt128 c = λ h. absurd (h refl)
 
 pub returns-then-first-lt194 : goal.returns-then-first-lt194
 returns-then-first-lt194 c = λ h. stray-character c.args.text.now c.args.at refl
-    (omega (arith, c.if-first-lt128.false)) (omega (arith, c.if-first-lt194.true))
+    (omega arith) (omega arith)
 
 pub returns-then-first-lt225 : goal.returns-then-first-lt225
 returns-then-first-lt225 c = λ h. absurd (h refl)
@@ -23,7 +23,7 @@ returns-then-first-gt239 c = λ h. absurd (h refl)
 pub returns-then-not-is_continuation : goal.returns-then-not-is_continuation
 returns-then-not-is_continuation c = λ h. second-character c.args.text.now
     c.args.at refl
-    (omega (arith, c.if-first-lt225.false)) (omega (arith, c.if-first-gt239.false))
+    (omega arith) (omega (arith, c.if-first-gt239.false))
     c.byte_at.ensures (test-false c.is_continuation.ensures c.if-not-is_continuation.true)
 
 pub returns-then-first : goal.returns-then-first
@@ -33,7 +33,7 @@ pub returns-then-not-is_continuation-2 : goal.returns-then-not-is_continuation-2
 returns-then-not-is_continuation-2 c = λ h. third-character
     c.args.text.now
     c.args.at refl
-    (omega (arith, c.if-first-lt225.false))
+    (omega arith)
     (omega (arith, c.if-first-gt239.false))
     c.byte_at.ensures c.if-first.false (test-true
     c.is_continuation.ensures c.if-not-is_continuation.false)

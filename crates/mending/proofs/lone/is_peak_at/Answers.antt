@@ -5,7 +5,7 @@ use borrow.Author.Rules.{rules}
 use Rattle.mending.proofs.lone.is_peak_at.Goals as goal
 
 pub returns-then-tail-lt34209 : goal.returns-then-tail-lt34209
-returns-then-tail-lt34209 c = peak-none _ _ c.tail_at-tail.ensures (λ l m. omega (arith, l, c.if-tail-lt34209.true))
+returns-then-tail-lt34209 c = peak-none _ _ c.tail_at-tail.ensures (λ l m. omega (arith, l))
 
 pub returns : goal.returns
 returns c = peak-test _ _ c.tail_at-tail.ensures c.if-tail-lt34209.false

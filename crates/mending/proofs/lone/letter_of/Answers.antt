@@ -13,4 +13,4 @@ pub returns-then-third-gt191 : goal.returns-then-third-gt191
 returns-then-third-gt191 c = spelled_none c.none-then-third-gt191.ensures
 
 pub returns : goal.returns
-returns c = λ n. of-tail _ c.requires.le_tail c.requires.tail_bound (omega (arith, c.if-third-lt128.false)) (omega (arith, c.if-third-gt191.false))
+returns c = λ n. of-tail _ c.requires.le_tail c.requires.tail_bound (omega arith) (omega (arith, c.if-third-gt191.false))

@@ -6,18 +6,18 @@ use borrow.Author.Rules.{rules}
 use Rattle.mending.proofs.spelled.final_at.Goals as goal
 
 pub returns-in-34472-to-34495 : goal.returns-in-34472-to-34495
-returns-in-34472-to-34495 c = final-low _ _ c.tail_at-tail.ensures c.if-tail-lt34472.false (omega (arith, c.if-tail-lt34496.true))
+returns-in-34472-to-34495 c = final-low _ _ c.tail_at-tail.ensures c.if-tail-lt34472.false (omega arith)
 
 pub returns-in-34688-to-34690 : goal.returns-in-34688-to-34690
-returns-in-34688-to-34690 c = final-high _ _ c.tail_at-tail.ensures c.if-tail-lt34688.false (omega (arith, c.if-tail-lt34691.true))
+returns-in-34688-to-34690 c = final-high _ _ c.tail_at-tail.ensures c.if-tail-lt34688.false (omega arith)
 
 pub returns-in_default : goal.returns-in_default
-returns-in_default c = final-none _ _ c.tail_at-tail.ensures (λ l m. omega (arith, l, c.if-tail-lt34472.true)) (λ l m. omega (arith, l, c.if-tail-lt34472.true))
+returns-in_default c = final-none _ _ c.tail_at-tail.ensures (λ l m. omega (arith, l)) (λ l m. omega (arith, l))
 
 pub returns-in_default-2 : goal.returns-in_default-2
-returns-in_default-2 c = final-none _ _ c.tail_at-tail.ensures (λ l m. omega (arith, m, c.if-tail-lt34496.false))
-    (λ l m. omega (arith, l, c.if-tail-lt34688.true))
+returns-in_default-2 c = final-none _ _ c.tail_at-tail.ensures (λ l m. omega (arith, m))
+    (λ l m. omega (arith, l))
 
 pub returns-in_default-3 : goal.returns-in_default-3
-returns-in_default-3 c = final-none _ _ c.tail_at-tail.ensures (λ l m. omega (arith, m, c.if-tail-lt34691.false))
-    (λ l m. omega (arith, m, c.if-tail-lt34691.false))
+returns-in_default-3 c = final-none _ _ c.tail_at-tail.ensures (λ l m. omega (arith, m))
+    (λ l m. omega (arith, m))

@@ -7,10 +7,10 @@ use borrow.Author.Rules.{rules}
 use Rattle.mending.proofs.spelled.tail_at.Goals as goal
 
 pub returns-then-text-lt3 : goal.returns-then-text-lt3
-returns-then-text-lt3 c = tail-short _ _ (omega (arith, c.if-text-lt3.true))
+returns-then-text-lt3 c = tail-short _ _ (omega arith)
 
 pub returns-then-text-at : goal.returns-then-text-at
-returns-then-text-at c = tail-short _ _ (omega (arith, c.if-text-lt3.false, c.if-text-at.true))
+returns-then-text-at c = tail-short _ _ (omega (arith, c.if-text-at.true))
 
 pub returns-then-text-at-2 : goal.returns-then-text-at-2
 returns-then-text-at-2 c = tail-other _ _ c.if-text-at-2.true

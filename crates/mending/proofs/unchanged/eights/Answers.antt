@@ -13,4 +13,4 @@ loop-at-init c = search (rules, passes_none)
 
 pub loop-at-preserved : goal.loop-at-preserved
 loop-at-preserved c = passes_on c.loop-at.invariant
-    (low-eight _ _ (omega arith) (c.are_low.ensures (not-false _ c.if-not-are_low.false)))
+    (low-eight _ _ (omega arith) (c.are_low.ensures c.if-not-are_low.false))

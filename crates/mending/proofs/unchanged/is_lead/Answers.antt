@@ -14,4 +14,4 @@ pub returns-then-both-gt60831 : goal.returns-then-both-gt60831
 returns-then-both-gt60831 c = λ q. absurd (false≢true q)
 
 pub returns : goal.returns
-returns c = λ q. lead-number (omega arith) (omega (arith, c.if-both-lt60032.false)) (omega (arith, c.if-both-gt60831.false)) (sym c.is_continuation.ensures ∙ q)
+returns c = λ q. lead-number (omega arith) (omega arith) (omega (arith, c.if-both-gt60831.false)) (sym c.is_continuation.ensures ∙ q)

@@ -14,4 +14,4 @@ pub returns-then-not-is_three : goal.returns-then-not-is_three
 returns-then-not-is_three c = passes_none _ _ c.requires
 
 pub returns : goal.returns
-returns c = three-last _ _ (omega (arith, c.if-text-at-ne3.false)) (c.is_three.ensures (not-false _ c.if-not-is_three.false))
+returns c = three-last _ _ (omega (arith, c.if-text-at-ne3.false)) (c.is_three.ensures c.if-not-is_three.false)

@@ -12,4 +12,4 @@ pub loop-at-init : goal.loop-at-init
 loop-at-init c = search (rules, passes_none)
 
 pub loop-at-preserved : goal.loop-at-preserved
-loop-at-preserved c = passes_on c.loop-at.invariant (plain-four _ _ (omega arith) (c.are_plain.ensures (not-false _ c.if-not-are_plain.false)))
+loop-at-preserved c = passes_on c.loop-at.invariant (plain-four _ _ (omega arith) (c.are_plain.ensures c.if-not-are_plain.false))

@@ -6,8 +6,8 @@ use borrow.Author.Rules.{rules}
 use Rattle.names.proofs.read.fits.Goals as goal
 
 pub returns-then-not-goes_on : goal.returns-then-not-goes_on
-returns-then-not-goes_on c = fits_not c.args.part c.args.vowel c.args.rest.now c.goes_on.ensures (not-true _ c.if-not-goes_on.true)
+returns-then-not-goes_on c = fits_not c.args.part c.args.vowel c.args.rest.now c.goes_on.ensures c.if-not-goes_on.true
 
 pub returns : goal.returns
 returns c = fits-as c.args.part c.args.vowel c.args.rest.now c.goes_on.ensures c.requires
-    (not-false _ c.if-not-goes_on.false) c.vowel_at.ensures
+    c.if-not-goes_on.false c.vowel_at.ensures

@@ -7,9 +7,6 @@ use Rattle.names.proofs.read.search.Goals as goal
 
 pub search-init : goal.search-init
 search-init c = initials-none c.begins_so.ensures c.start-i.ensures
-string-at-requires :
-    tie.Need-string-at-requires invariant-loop2 decreases-loop2 invariant-loop decreases-loop invariant-search decreases-search
-string-at-requires c κs = search rules
 
 pub slice_bounds-fits-count : goal.slice_bounds-fits-count
 slice_bounds-fits-count c = prefix-long c.search.invariant c.if-i-ge19.false
@@ -24,20 +21,16 @@ pub loop-p-init : goal.loop-p-init
 loop-p-init c = let initial = spelled _ c.requires.initial_rows
     c.if-i-ge19.false c.string_at-initial.ensures in
     peaks-none initial c.fits.ensures c.start-p.ensures
-string-at-requires-2 :
-    tie.Need-string-at-requires-2 invariant-loop2 decreases-loop2 invariant-loop decreases-loop invariant-search decreases-search
-string-at-requires-2 c κs = search rules
-add-after-initial :
-    tie.Need-overflow-add-after-initial invariant-loop2 decreases-loop2 invariant-loop decreases-loop invariant-search decreases-search
-add-after-initial c = omega (arith, c.?loop.invariant.initial.few)
+
+pub overflow_add-after_initial : goal.overflow_add-after_initial
+overflow_add-after_initial c = omega (arith, c.loop-p.invariant.initial.few)
 
 pub slice_bounds-fits-count-in-loop-p : goal.slice_bounds-fits-count-in-loop-p
 slice_bounds-fits-count-in-loop-p c = initial-long c.search.invariant c.if-i-ge19.false
     c.loop-p.invariant c.loop-p-test.true
-part-fits-start-2 :
-    tie.Need-slice-bounds-fits-start-2 invariant-loop2 decreases-loop2 invariant-loop decreases-loop invariant-search decreases-search
-part-fits-start-2 c =
-    initial-long c.search.invariant c.if-i-ge19.false
+
+pub slice_bounds-fits-start-in-loop-p : goal.slice_bounds-fits-start-in-loop-p
+slice_bounds-fits-start-in-loop-p c = initial-long c.search.invariant c.if-i-ge19.false
     c.loop-p.invariant c.loop-p-test.true
 
 pub fits-requires-in-loop-p : goal.fits-requires-in-loop-p
@@ -60,12 +53,8 @@ pub slice_bounds-ends-start : goal.slice_bounds-ends-start
 slice_bounds-ends-start c = peak-long c.search.invariant c.if-i-ge19.false
     c.loop-p.invariant c.loop-p-test.true c.loop-f.invariant c.loop-f-test.true
 
-pub slice_bounds-ends-end : goal.slice_bounds-ends-end
-slice_bounds-ends-end c = search rules
-string-at-requires-3 :
-    tie.Need-string-at-requires-3 invariant-loop2 decreases-loop2 invariant-loop decreases-loop invariant-search decreases-search
-string-at-requires-3 c κs =
-    row_inside _ c.requires.final_rows
+pub string_at-requires : goal.string_at-requires
+string_at-requires c = row_inside _ c.requires.final_rows
     c.loop-f-test.true
 
 pub ends-requires : goal.ends-requires

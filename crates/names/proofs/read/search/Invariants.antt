@@ -24,6 +24,3 @@ invariant-search l = Initials l.name l.i
 
 abbrev pub decreases-search : goal.decreases-search
 decreases-search l = 19 - l.i
-begins-so-requires :
-    tie.Need-begins-so-requires invariant-loop2 decreases-loop2 invariant-loop decreases-loop invariant-search decreases-search
-begins-so-requires c κs = search rules

@@ -11,4 +11,4 @@ pub returns-in-65 : goal.returns-in-65
 returns-in-65 c = vowel-here _ _ c.if-rest-at.false (vowel-yes _ c.in-65.is)
 
 pub returns-in_default : goal.returns-in_default
-returns-in_default c = vowel-here _ _ c.if-rest-at.false (vowel-no _ c.in_default.rest.1)
+returns-in_default c = vowel-here _ _ c.if-rest-at.false (vowel-no _ c.in_default.in_default-own.rest.1)

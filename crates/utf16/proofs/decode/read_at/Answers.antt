@@ -12,13 +12,13 @@ pub overflow_cast-first : goal.overflow_cast-first
 overflow_cast-first c = omega (arith, c.shared_slice_known-2-1.given c.args.at)
 
 pub read_pair-requires : goal.read_pair-requires
-read_pair-requires c = begins-pair _ _ c.if-text-at.false refl c.if-first-lt55296.false (omega (arith, c.if-first-lt56320.true))
+read_pair-requires c = begins-pair _ _ c.if-text-at.false refl (omega arith) (omega arith)
 
 pub returns-in-56320-to-57343 : goal.returns-in-56320-to-57343
-returns-in-56320-to-57343 c = c.unpaired.ensures ∙ at-unpaired-low _ _ c.if-text-at.false refl (omega (arith, c.if-first-lt56320.false)) (omega (arith, c.if-first-lt57344.true))
+returns-in-56320-to-57343 c = c.unpaired.ensures ∙ at-unpaired-low _ _ c.if-text-at.false refl (omega arith) (omega arith)
 
 pub returns-in_default : goal.returns-in_default
-returns-in_default c = at_low _ _ c.if-text-at.false refl c.if-first-lt55296.true
+returns-in_default c = at_low _ _ c.if-text-at.false refl (omega arith)
 
 pub returns-in_default-2 : goal.returns-in_default-2
-returns-in_default-2 c = at_high _ _ c.if-text-at.false refl (omega (arith, c.if-first-lt57344.false)) (omega (arith, c.shared_slice_known-2-1.given c.args.at))
+returns-in_default-2 c = at_high _ _ c.if-text-at.false refl (omega arith) (omega (arith, c.shared_slice_known-2-1.given c.args.at))

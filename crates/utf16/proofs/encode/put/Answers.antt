@@ -7,16 +7,16 @@ use borrow.Author.Rules.{rules}
 use Rattle.utf16.proofs.encode.put.Goals as goal
 
 pub bounds-out-at : goal.bounds-out-at
-bounds-out-at c = room-one c.requires.room (units-one _ (omega (arith, c.if-code-lt65536.true)))
+bounds-out-at c = room-one c.requires.room (units-one _ (omega arith))
 
 pub returns-then-code-lt65536 : goal.returns-then-code-lt65536
-returns-then-code-lt65536 c = wrote_one (units-one _ (omega (arith, c.if-code-lt65536.true)))
+returns-then-code-lt65536 c = wrote_one (units-one _ (omega arith))
 
 pub bounds-out-at-2 : goal.bounds-out-at-2
-bounds-out-at-2 c = omega (arith, room-all c.requires.room (units-two _ (omega (arith, c.if-code-lt65536.false))))
+bounds-out-at-2 c = omega (arith, room-all c.requires.room (units-two _ (omega arith)))
 
 pub bounds-out-at-3 : goal.bounds-out-at-3
-bounds-out-at-3 c = simp length-set (omega (arith, room-all c.requires.room (units-two _ (omega (arith, c.if-code-lt65536.false)))))
+bounds-out-at-3 c = simp length-set (omega (arith, room-all c.requires.room (units-two _ (omega arith))))
 
 pub returns : goal.returns
-returns c = wrote-pair (units-two _ (omega (arith, c.if-code-lt65536.false)))
+returns c = wrote-pair (units-two _ (omega arith))

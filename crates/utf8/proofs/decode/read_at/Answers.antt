@@ -32,22 +32,22 @@ read_four-requires-in-244 c = begins-between table37 0xF4 0xF4 tt c.if-text-at.f
     (omega arith) (omega arith)
 
 pub read_two-requires : goal.read_two-requires
-read_two-requires c = begins-between table37 0xC2 0xDF tt c.if-text-at.false refl (omega (arith, c.if-first-lt194.false))
-    (omega (arith, c.if-first-lt224.true)) (omega arith) (omega arith)
+read_two-requires c = begins-between table37 0xC2 0xDF tt c.if-text-at.false refl (omega arith)
+    (omega arith) (omega arith) (omega arith)
 
 pub read_three-requires-in-225-to-236 : goal.read_three-requires-in-225-to-236
 read_three-requires-in-225-to-236 c = begins-between table37 0xE1 0xEC tt c.if-text-at.false refl
-    (omega (arith, c.if-first-lt224.false, c.in_default-1.rest.0.0.0.1)) (omega (arith, c.if-first-lt237.true))
+    (omega arith) (omega arith)
     (omega arith) (omega arith)
 
 pub read_three-requires-in-238-to-239 : goal.read_three-requires-in-238-to-239
 read_three-requires-in-238-to-239 c = begins-between table37 0xEE 0xEF tt c.if-text-at.false refl
-    (omega (arith, c.if-first-lt237.false, c.in_default-1.rest.0.0.1)) (omega (arith, c.if-first-lt240.true))
+    (omega arith) (omega arith)
     (omega arith) (omega arith)
 
 pub read_four-requires-in-241-to-243 : goal.read_four-requires-in-241-to-243
 read_four-requires-in-241-to-243 c = begins-between table37 0xF1 0xF3 tt c.if-text-at.false refl
-    (omega (arith, c.if-first-lt240.false, c.in_default-1.rest.0.1)) (omega (arith, c.if-first-lt244.true))
+    (omega arith) (omega arith)
     (omega arith) (omega arith)
 
 pub returns-in-224 : goal.returns-in-224
@@ -64,7 +64,7 @@ returns-in-244 c = c.read_four-in-244.ensures
 
 pub returns-in-0-to-127 : goal.returns-in-0-to-127
 returns-in-0-to-127 c = one-taken form8 _ _ c.if-text-at.false refl
-    (row-full table37 _ (row-between table37 0x00 0x7F tt (omega arith) (omega (arith, c.if-first-lt128.true)))) refl
+    (row-full table37 _ (row-between table37 0x00 0x7F tt (omega arith) (omega arith))) refl
 
 pub returns-in-194-to-223 : goal.returns-in-194-to-223
 returns-in-194-to-223 c = c.read_two.ensures
@@ -80,8 +80,8 @@ returns-in-241-to-243 c = c.read_four-in-241-to-243.ensures
 
 pub returns-in_default : goal.returns-in_default
 returns-in_default c = none-taken form8 _ _ c.if-text-at.false refl
-    (row-bad table37 _ (row-between table37 0x80 0xC1 tt (omega (arith, c.if-first-lt128.false)) (omega (arith, c.if-first-lt194.true)))) refl
+    (row-bad table37 _ (row-between table37 0x80 0xC1 tt (omega arith) (omega arith))) refl
 
 pub returns-in_default-2 : goal.returns-in_default-2
 returns-in_default-2 c = none-taken form8 _ _ c.if-text-at.false refl
-    (row-bad table37 _ (row-over (omega (arith, c.if-first-lt244.false, c.in_default-1.rest.1)))) refl
+    (row-bad table37 _ (row-over (omega arith))) refl
