@@ -157,7 +157,7 @@ module _ (db std : Database) (In : ℕ → Type 0) (a : Agree db std In) where
 
     proceeding-agree : {x y : List ℕ} → All In x → All In y → proceeding db x y ≡ proceeding std x y
     proceeding-agree h All.none = refl
-    proceeding-agree h (also k r) = rw (combined-agree h k) (proceeding-agree (combined-in h k) r)
+    proceeding-agree {x = x} h (also {a = a'} k r) = rw (combined-agree h k) (proceeding-agree {x = combined std x a'} (combined-in h k) r)
 
     composed-agree : {x : List ℕ} → All In x → composed db x ≡ composed std x
     composed-agree All.none = refl

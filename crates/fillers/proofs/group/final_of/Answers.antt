@@ -24,4 +24,4 @@ pub returns-in_default : goal.returns-in_default
 returns-in_default c = sym (ap or_none (final-low _ (omega arith)))
 
 pub returns-in_default-2 : goal.returns-in_default-2
-returns-in_default-2 c = sym (ap or_none (final-high _ (omega arith) c.in_default-1.rest.1))
+returns-in_default-2 c = sym (ap or_none (final-high _ (omega arith) (omega arith)))

@@ -8,6 +8,7 @@ use mathlib.Core.Path.{refl}
 use native.Mathlib.Omega.{arith}
 use borrow.Author.Rules.{rules}
 use Rattle.fillers.proofs.text.turn_into.Goals as goal
+use Rattle.fillers.proofs.text.turn_into.Goals.{then-syllable-eq0, else-syllable-eq0}
 
 pub loop-read-init : goal.loop-read-init
 loop-read-init c = (search rules, filling-none _ _)
@@ -30,22 +31,21 @@ pub overflow_add-written : goal.overflow_add-written
 overflow_add-written c = omega (arith, written-most _ c.loop-read.invariant.1)
 
 pub loop-read-smaller : goal.loop-read-smaller
-loop-read-smaller c = ⊎_elim (λ w. omega arith) (λ w. omega arith) c.if-syllable-eq0.branch
+loop-read-smaller c = elim c.if-syllable-eq0.branch [ then-syllable-eq0 w ↦ omega arith | else-syllable-eq0 w ↦ omega arith ]
 
 pub loop-read-preserved : goal.loop-read-preserved
-loop-read-preserved c = let found = c.group_at-syllable.ensures in
-    ⊎_elim
-    (λ w. rw (w.2, w.3) (
-      omega arith,
-      filling-more c.requires.text_in_bounds c.loop-read.invariant.1
-          (copied-piece _ _ c.loop-read-test.true found w.0.taken) (wrote_one refl),
-    ))
-    (λ w. rw (w.1, w.2) (
-      omega (arith, group-inside _ _ c.loop-read-test.true found w.0.left),
-      filling-more c.requires.text_in_bounds c.loop-read.invariant.1
-          (group-piece _ _ c.loop-read-test.true found w.0.left) (wrote_one refl),
-    ))
-    c.if-syllable-eq0.branch
+loop-read-preserved c = let found = c.group_at-syllable.ensures in elim c.if-syllable-eq0.branch [
+  then-syllable-eq0 w ↦ rw (w.read-is, w.out-is) (
+    omega arith,
+    filling-more c.requires.text_in_bounds c.loop-read.invariant.1
+        (copied-piece _ _ c.loop-read-test.true found w.if-syllable-eq0.true) (wrote_one refl),
+  )
+  | else-syllable-eq0 w ↦ rw (w.read-is, w.out-is) (
+    omega (arith, group-inside _ _ c.loop-read-test.true found w.if-syllable-eq0.false),
+    filling-more c.requires.text_in_bounds c.loop-read.invariant.1
+        (group-piece _ _ c.loop-read-test.true found w.if-syllable-eq0.false) (wrote_one refl),
+  )
+]
 
 pub shape_of-out : goal.shape_of-out
 shape_of-out c = filling-length c.requires.text_in_bounds c.loop-read.invariant.1

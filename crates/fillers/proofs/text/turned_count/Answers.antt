@@ -8,6 +8,7 @@ use mathlib.Core.Path.{refl}
 use native.Mathlib.Omega.{arith}
 use borrow.Author.Rules.{rules}
 use Rattle.fillers.proofs.text.turned_count.Goals as goal
+use Rattle.fillers.proofs.text.turned_count.Goals.{then-syllable-eq0, else-syllable-eq0}
 
 pub loop-read-init : goal.loop-read-init
 loop-read-init c = (search rules, counting-none _)
@@ -20,22 +21,19 @@ overflow_add-count c = omega (
     )
 
 pub loop-read-smaller : goal.loop-read-smaller
-loop-read-smaller c = ⊎_elim (λ w. omega arith) (λ w. omega arith) c.if-syllable-eq0.branch
+loop-read-smaller c = elim c.if-syllable-eq0.branch [ then-syllable-eq0 w ↦ omega arith | else-syllable-eq0 w ↦ omega arith ]
 
 pub loop-read-preserved : goal.loop-read-preserved
-loop-read-preserved c = let found = c.group_at-syllable.ensures in
-    ⊎_elim
-    (λ w. rw w.1 (
-      omega arith,
-      counting_more c.loop-read.invariant.1
-          (copied-piece _ _ c.loop-read-test.true found w.0.taken) refl,
-    ))
-    (λ w. rw w.1 (
-      omega (arith, group-inside _ _ c.loop-read-test.true found w.0.left),
-      counting_more c.loop-read.invariant.1
-          (group-piece _ _ c.loop-read-test.true found w.0.left) refl,
-    ))
-    c.if-syllable-eq0.branch
+loop-read-preserved c = let found = c.group_at-syllable.ensures in elim c.if-syllable-eq0.branch [
+  then-syllable-eq0 w ↦ rw w.read-is (
+    omega arith,
+    counting_more c.loop-read.invariant.1 (copied-piece _ _ c.loop-read-test.true found w.if-syllable-eq0.true) refl,
+  )
+  | else-syllable-eq0 w ↦ rw w.read-is (
+    omega (arith, group-inside _ _ c.loop-read-test.true found w.if-syllable-eq0.false),
+    counting_more c.loop-read.invariant.1 (group-piece _ _ c.loop-read-test.true found w.if-syllable-eq0.false) refl,
+  )
+]
 
 pub returns : goal.returns
 returns c = counting-all c.loop-read.invariant.1 (turned-end _ _ c.loop-read-test.false)

@@ -6,10 +6,10 @@ use borrow.Author.Rules.{rules}
 use Rattle.mending.proofs.spelled.final_at.Goals as goal
 
 pub returns-in-34472-to-34495 : goal.returns-in-34472-to-34495
-returns-in-34472-to-34495 c = final-low _ _ c.tail_at-tail.ensures c.if-tail-lt34472.false (omega arith)
+returns-in-34472-to-34495 c = final-low _ _ c.tail_at-tail.ensures (omega arith) (omega arith)
 
 pub returns-in-34688-to-34690 : goal.returns-in-34688-to-34690
-returns-in-34688-to-34690 c = final-high _ _ c.tail_at-tail.ensures c.if-tail-lt34688.false (omega arith)
+returns-in-34688-to-34690 c = final-high _ _ c.tail_at-tail.ensures (omega arith) (omega arith)
 
 pub returns-in_default : goal.returns-in_default
 returns-in_default c = final-none _ _ c.tail_at-tail.ensures (λ l m. omega (arith, l)) (λ l m. omega (arith, l))

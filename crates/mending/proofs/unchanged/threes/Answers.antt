@@ -1,6 +1,5 @@
 use Rattle.mending.proofs.Passes.{lead-three, three-passes}
 use Rattle.mending.specs.Inner.{Passes}
-use borrow.Author.Tests.{not-false}
 use lib.ListN.{length}
 use Prim.Native.Nat.{◌-◌}
 use native.Mathlib.Omega.{arith}
@@ -15,6 +14,5 @@ loop-at-init c = search (rules, passes_none)
 
 pub loop-at-preserved : goal.loop-at-preserved
 loop-at-preserved c = passes_on c.loop-at.invariant (three-passes _ _ (omega arith) refl
-    (lead-three (c.is_lead.ensures (not-false _
-    c.if-not-is_lead.false)) (test-true c.is_continuation.ensures
+    (lead-three (c.is_lead.ensures c.if-not-is_lead.false) (test-true c.is_continuation.ensures
     c.if-not-is_continuation.false) c.if-text-at.false))
