@@ -92,17 +92,19 @@ module _ (first second : List ℕ) {v : Checked} (said : checked v ≡ takes_byt
 both-pass : (a b : Check) (more : List Check) → in_order (a ∷ b ∷ more) ≡ passes → (a ≡ passes) × (b ≡ passes)
 both-pass a b more e = (order-first a (b ∷ more) e, order-first b more (order-rest a (b ∷ more) e))
 
-pub two-short : (first second : List ℕ) → takes_two first second ≡ passes → (length first ≤ 16384) × (length second ≤ 16384)
+pub two-short : (first second : List ℕ) → takes_two first second ≡ passes
+    → record { first_len_bound : length first ≤ 16384; second_len_bound : length second ≤ 16384 }
 unfolding takes_two
 two-short first second e =
     let p = both-pass (over_limit 16384 (length first)) (over_limit 16384 (length second)) (bad_code_point first ∷ bad_code_point second ∷ []) e in
-    (over-limit-kept 16384 (length first) p.0, over-limit-kept 16384 (length second) p.1)
+    record { first_len_bound = over-limit-kept 16384 (length first) p.0; second_len_bound = over-limit-kept 16384 (length second) p.1 }
 
-pub two-bytes-short : (first second : List ℕ) → takes_two_bytes first second ≡ passes → (length first ≤ 16384) × (length second ≤ 16384)
+pub two-bytes-short : (first second : List ℕ) → takes_two_bytes first second ≡ passes
+    → record { first_len_bound : length first ≤ 16384; second_len_bound : length second ≤ 16384 }
 unfolding takes_two_bytes
 two-bytes-short first second e =
     let p = both-pass (takes_bytes first) (takes_bytes second) [] e in
-    (units-short first p.0, units-short second p.1)
+    record { first_len_bound = units-short first p.0; second_len_bound = units-short second p.1 }
 
 -- ---- the returns
 

@@ -13,6 +13,8 @@ pub copy-requires : goal.copy-requires
 copy-requires c = label-fits c.args.object c.args.berth c.args.label.now _ c.requires c.fresh-record.ensures.value_2
 
 pub returns : goal.returns
-returns c = record-made c.args.object c.args.berth _ _
+returns c =
+    let made = record-made c.args.object c.args.berth _ _
     c.requires (search rules) (search rules) c.fresh-record.ensures.value_2
-    c.copy.ensures
+    c.copy.ensures in
+    record { value = made.0; value_2 = made.1 }

@@ -27,7 +27,8 @@ returns-then-code-lt1048576 c = wrote-two (five-piece _ c.if-code-lt65536.false 
     c.put_four-then-code-lt1048576.ensures
 
 pub shape_of-out-then-code-lt1048576 : goal.shape_of-out-then-code-lt1048576
-shape_of-out-then-code-lt1048576 c = wrote-length (returns-2 c)
+shape_of-out-then-code-lt1048576 c = wrote-length (wrote-two (five-piece _ c.if-code-lt65536.false c.if-code-lt1048576.true c.digit.ensures) (wrote_one refl)
+    c.put_four-then-code-lt1048576.ensures)
 
 pub bounds-out-at-2 : goal.bounds-out-at-2
 bounds-out-at-2 c = let six = six-piece _ c.if-code-lt1048576.false c.digit-2.ensures refl in
@@ -46,4 +47,5 @@ returns c = wrote-two (six-piece _ c.if-code-lt1048576.false c.digit-2.ensures c
     c.put_four-2.ensures
 
 pub shape_of-out : goal.shape_of-out
-shape_of-out c = wrote-length (returns-3 c)
+shape_of-out c = wrote-length (wrote-two (six-piece _ c.if-code-lt1048576.false c.digit-2.ensures c.digit-3.ensures) (wrote-pair refl)
+    c.put_four-2.ensures)

@@ -10,7 +10,7 @@ pub returns-in-End-second : goal.returns-in-End-second
 returns-in-End-second c = moves c.in-End.is c.in-End-second.is c.done.ensures apart-ends
 
 pub returns-in_default : goal.returns-in_default
-returns-in_default c = moves c.in-End.is refl c.done-in_default.ensures (end-first c.args.second c.in_default.keys2)
+returns-in_default c = moves c.in-End.is refl c.done-in_default.ensures (end-first c.args.second c.in_default.not-End)
 
 pub returns-in-End-second-2 : goal.returns-in-End-second-2
 returns-in-End-second-2 c = moves c.in-Digit.is c.in-End-second-2.is c.done-in-End-second-2.ensures (apart-digit-end _)
@@ -25,4 +25,4 @@ pub returns-in-Other-second-2 : goal.returns-in-Other-second-2
 returns-in-Other-second-2 c = moves c.in-Other.is c.in-Other-second-2.is refl c.others.ensures
 
 pub returns-in_default-second : goal.returns-in_default-second
-returns-in_default-second c = moves c.in-Other.is refl c.done-in_default-second.ensures (other_last _ c.args.second c.in_default-second.keys2)
+returns-in_default-second c = moves c.in-Other.is refl c.done-in_default-second.ensures (other_last _ c.args.second c.in_default-second.not-Other)

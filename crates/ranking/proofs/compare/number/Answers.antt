@@ -7,7 +7,7 @@ use borrow.Author.Rules.{rules}
 use Rattle.ranking.proofs.compare.number.Goals as goal
 
 pub ended-requires : goal.ended-requires
-ended-requires c = record { closed = closed-tags c.args.first c.in_default.keys2; closed_2 = closed-tags c.args.second c.in_default-second-2.keys2 }
+ended-requires c = record { closed = closed-tags c.args.first c.in_default.not-Digit; closed_2 = closed-tags c.args.second c.in_default-second-2.not-Digit }
 
 pub returns-in-Digit-second : goal.returns-in-Digit-second
 returns-in-Digit-second c = moves c.in-Digit.is c.in-Digit-second.is refl
@@ -15,11 +15,11 @@ returns-in-Digit-second c = moves c.in-Digit.is c.in-Digit-second.is refl
 
 pub returns-in_default-second : goal.returns-in_default-second
 returns-in_default-second c = moves c.in-Digit.is refl c.done.ensures
-    (number-longer _ _ _ (closed-tags c.args.second c.in_default-second.keys2))
+    (number-longer _ _ _ (closed-tags c.args.second c.in_default-second.not-Digit))
 
 pub returns-in-Digit-second-2 : goal.returns-in-Digit-second-2
 returns-in-Digit-second-2 c = moves refl c.in-Digit-second-2.is c.done-in-Digit-second-2.ensures
-    (number-shorter _ _ _ (closed-tags c.args.first c.in_default.keys2))
+    (number-shorter _ _ _ (closed-tags c.args.first c.in_default.not-Digit))
 
 pub returns-in_default-second-2 : goal.returns-in_default-second-2
 returns-in_default-second-2 c = c.ended.ensures
