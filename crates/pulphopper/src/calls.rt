@@ -9,8 +9,7 @@ use names::Named;
 use ranking::Ranked;
 
 // Mends a text of bytes: value is the bytes written, count the ill-formed subparts.
-#[unsafe(no_mangle)]
-pub extern "C" fn pulphopper_mend(text: &[u8], out: &mut [u8]) -> Answer
+pub fn pulphopper_mend(text: &[u8], out: &mut [u8]) -> Answer
     ensures { Mends text.now out.old result out.new }
 {
     let answer = mending::mend(text, out);
@@ -21,8 +20,7 @@ pub extern "C" fn pulphopper_mend(text: &[u8], out: &mut [u8]) -> Answer
 }
 
 // Mends a text of 16-bit units: value is the units written, count the unpaired surrogates.
-#[unsafe(no_mangle)]
-pub extern "C" fn pulphopper_mend_units(text: &[u16], out: &mut [u16]) -> Answer
+pub fn pulphopper_mend_units(text: &[u16], out: &mut [u16]) -> Answer
     ensures { MendsUnits text.now out.old result out.new }
 {
     let answer = mending_units::mend(text, out);
@@ -33,8 +31,7 @@ pub extern "C" fn pulphopper_mend_units(text: &[u16], out: &mut [u16]) -> Answer
 }
 
 // Names a syllable: value is the length of the name.
-#[unsafe(no_mangle)]
-pub extern "C" fn pulphopper_name(code: u32, out: &mut [u8]) -> Answer
+pub fn pulphopper_name(code: u32, out: &mut [u8]) -> Answer
     ensures { NamesForC code out.old result out.new }
 {
     let answer = names::name(code, out);
@@ -49,8 +46,7 @@ pub extern "C" fn pulphopper_name(code: u32, out: &mut [u8]) -> Answer
 }
 
 // Reads a name: value is the syllable.
-#[unsafe(no_mangle)]
-pub extern "C" fn pulphopper_read_name(name: &[u8]) -> Answer
+pub fn pulphopper_read_name(name: &[u8]) -> Answer
     ensures { ReadsNameForC name.now result }
 {
     let answer = names::read_name(name);
@@ -66,8 +62,7 @@ pub extern "C" fn pulphopper_read_name(name: &[u8]) -> Answer
 
 // Ranks two labels: value is 0 if the first comes before the second, 1 if they are equal, 2 if it
 // comes after.
-#[unsafe(no_mangle)]
-pub extern "C" fn pulphopper_rank(first: &[u8], second: &[u8]) -> Answer
+pub fn pulphopper_rank(first: &[u8], second: &[u8]) -> Answer
     ensures { RanksForC first.now second.now result }
 {
     let answer = ranking::rank_bytes(first, second);

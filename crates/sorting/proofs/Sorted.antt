@@ -36,6 +36,7 @@ member-cases here first next = first refl
 member-cases (there m) first next = next m
 
 pub all-member : {P : ℕ → Type 0} {x : List ℕ} → All P x → {k : ℕ} → Member k x → P k
+all-member none m = elim m [ ]
 all-member (also p q) here = p
 all-member (also p q) (there m) = all-member q m
 

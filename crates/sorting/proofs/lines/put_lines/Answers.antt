@@ -12,14 +12,14 @@ loop-read-init c = (search rules, filling-none _ _)
 
 pub put-at-requires : goal.put-at-requires
 put-at-requires c = let asked = c.requires in
-    filling-room asked.1 c.loop-read.invariant.1 (line-piece _ _ asked.0 _ c.loop-read-test.true)
+    filling-room asked.numbers_in_bounds c.loop-read.invariant.1 (line-piece _ _ asked.count_in_bounds _ c.loop-read-test.true)
 
 pub loop-read-preserved : goal.loop-read-preserved
 loop-read-preserved c = (
   search rules,
   let asked = c.requires in
-      let line = line-piece _ _ asked.0 _ c.loop-read-test.true in
-      filling-more asked.1 c.loop-read.invariant.1 line c.put-at.ensures,
+      let line = line-piece _ _ asked.count_in_bounds _ c.loop-read-test.true in
+      filling-more asked.numbers_in_bounds c.loop-read.invariant.1 line c.put-at.ensures,
 )
 
 pub shape_of-out : goal.shape_of-out

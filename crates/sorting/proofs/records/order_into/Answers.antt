@@ -25,11 +25,11 @@ overflow_cast-number-in-loop-number c = omega (
     )
 
 pub insert-requires : goal.insert-requires
-insert-requires c = record { at_le_count = c.place_of-at.ensures.inside; count_in_bounds = omega (arith, ordered-size _ _ {n = c.?loop.number} (omega arith) c.?loop.invariant.1) }
+insert-requires c = record { at_le_count = c.place_of-at.ensures.inside; count_in_bounds = omega (arith, ordered-size _ _ {n = c.loop-number.number} (omega arith) c.loop-number.invariant.1) }
 
 pub loop-number-preserved : goal.loop-number-preserved
 loop-number-preserved c = let place = c.place_of-at.ensures in
-    let sorted = c.?loop.invariant.1 in
+    let sorted = c.loop-number.invariant.1 in
     (omega arith, ordered-more _ _ (omega arith) sorted place c.insert.ensures)
 
 pub shape_of-out : goal.shape_of-out
