@@ -2,11 +2,10 @@
 -- its value (`told-injective`, `refused_by-injective`, `filled-injective`, `checked-injective`). And
 -- a refusal's number is at most 7, so that it is one digit (`told_below`, `number-below`).
 use mathlib.Core.Path.{◌≡◌, refl, sym, ◌∙◌, ap}
-use mathlib.Core.List.{List, [], ◌∷◌}
+use mathlib.Core.List.{[], ◌∷◌}
 use Prim.Native.Nat.{ℕ, ◌-◌, ◌≤◌}
 use native.Mathlib.Omega.{arith}
 use lib.ListN.{get_or}
-use Rattle.answers.specs.Verdicts.{Verdict, done, refused}
 use Rattle.answers.specs.Answers.{told, refused_by, checked, filled}
 use Rattle.answers.specs.declared.refusal.Refusal.{Refusal}
 use Rattle.answers.specs.declared.refusal.Refusal.TheVariants.{OverLimit, BadCodePoint, NoRoom, NoSyllable, NoName, NoRecord, BadLayout}

@@ -2,7 +2,7 @@
 -- and that the first check that refuses counts. It knows the paper's numbers alone: nothing of the
 -- code's enums (specs/Answers), nor of Hangul. The checks of 4 to 7 stand in the crates that make
 -- them.
-use Rattle.std.specs.Prelude.{Bool, cond, ◌||◌, List, [], ◌∷◌, ℕ, suc, ltb, length}
+use Rattle.std.specs.Prelude.{Bool, cond, ◌||◌, List, [], ◌∷◌, ℕ, ltb, length}
 use Rattle.laws.specs.Lists.{first_where}
 use Rattle.laws.specs.Ranges.{within}
 

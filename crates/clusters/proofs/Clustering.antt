@@ -23,7 +23,7 @@ use Rattle.laws.proofs.Tables.{every}
 use Rattle.clusters.specs.Table.{Cluster, two, three, clusters, cluster_code, letters_in, letters_from, letters_of, has_row, nowhere, place_of}
 use Rattle.clusters.specs.Rows.{as_row, row_by, letters_by}
 use Rattle.clusters.specs.Gathering.{two_in, two_of, three_in, three_of}
-use Rattle.clusters.specs.Inner.{In, Letter, Covers, Searched, hit, miss, SearchedFrom, SearchedIn, or_zero}
+use Rattle.clusters.specs.Inner.{In, Letter, Covers, hit, miss, SearchedFrom, SearchedIn, or_zero}
 use Rattle.clusters.specs.declared.table.Row.{Row}
 use Rattle.clusters.specs.declared.gather.Span.{Span}
 use Rattle.clusters.proofs.Codes.{row-least}

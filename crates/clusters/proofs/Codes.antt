@@ -5,9 +5,9 @@
 -- `before-table` and the like), and so no row below 1100 (`row-least`), none of a syllable
 -- (`row-beside`), and a letter or filler nowhere else (`off-neither`).
 use mathlib.Core.Path.{◌≡◌, refl, sym, ◌∙◌, ap}
-use mathlib.Core.Bool.{Bool, true, false, ◌||◌, true≢false}
+use mathlib.Core.Bool.{true, false, ◌||◌, true≢false}
 use mathlib.Core.Logic.{⊎_elim}
-use mathlib.Core.List.{List, [], ◌∷◌, ◌++◌}
+use mathlib.Core.List.{List, ◌++◌}
 use Prim.Native.Nat.{ℕ, zero, suc, ◌+◌, ◌-◌, ◌≤◌, ◌<◌}
 use native.Mathlib.Omega.{arith}
 use lib.Dec.{T, ltb}
@@ -17,7 +17,7 @@ use borrow.Author.Tests.{ltb-true, ltb-false}
 use Rattle.laws.specs.Lists.{All}
 use Rattle.laws.specs.Ranges.{within}
 use Rattle.laws.proofs.Bools.{test, T_true, or_left, or_right}
-use Rattle.laws.proofs.Ranges.{within-yes, within-below, within-above, within-least, within-most, within-not}
+use Rattle.laws.proofs.Ranges.{within-below, within-above, within-least, within-most, within-not}
 use Rattle.laws.proofs.Lists.{all-at}
 use Rattle.laws.proofs.Strings.{every-all}
 use Rattle.laws.proofs.Tables.{every}

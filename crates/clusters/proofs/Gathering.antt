@@ -7,7 +7,7 @@ use Prim.Native.Nat.{ℕ, ◌<◌}
 use lib.Dec.{eqb}
 use borrow.Author.Tests.{ne_eqb}
 use Rattle.joining.specs.declared.joiner.Emitted.TheVariants.{Empty, One as OneOut}
-use Rattle.clusters.specs.Gathering.{two_of, three_of, gathered}
+use Rattle.clusters.specs.Gathering.{two_of, three_of}
 use Rattle.clusters.specs.Inner.{or_zero, gather_flush, GatherStepped}
 use Rattle.clusters.specs.declared.table.Row.{Row}
 use Rattle.clusters.specs.declared.gather.Pending.{Pending}

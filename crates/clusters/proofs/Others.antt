@@ -2,8 +2,8 @@
 -- initial, peak or final is its own simple form and its own gathered form. In order: such a code
 -- point (`Foreign`), which is alone (`letters-foreign`) and joins with nothing before it; SIMPLE
 -- FORM (`simple-others`); GATHERED FORM (`clustered-others`, `gathered-others`).
-use mathlib.Core.Path.{◌≡◌, refl, sym, ◌∙◌, ap}
-use mathlib.Core.Bool.{true, false, true≢false}
+use mathlib.Core.Path.{◌≡◌, refl, ◌∙◌, ap}
+use mathlib.Core.Bool.{false, true≢false}
 use mathlib.Core.List.{List, [], ◌∷◌}
 use Prim.Native.Nat.{ℕ}
 use native.Mathlib.Omega.{arith}

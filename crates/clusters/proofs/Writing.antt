@@ -12,7 +12,7 @@ use Rattle.laws.specs.Machines.{Machine, outs, ends}
 use Rattle.laws.specs.Writing.{Room, Wrote}
 use Rattle.laws.proofs.Machines.{outs-append, ends-append, from-outs}
 use Rattle.laws.proofs.Filling.{Piece, wrote_none, wrote-two, wrote-length, room-first, room-second, filling-none, filling-last}
-use Rattle.joining.specs.Joining.{held, opens, joiner}
+use Rattle.joining.specs.Joining.{held, joiner}
 use Rattle.joining.specs.Answers.{emitted, Stepped}
 use Rattle.joining.specs.declared.joiner.Open.{Open}
 use Rattle.joining.specs.declared.joiner.Outcome.{Outcome}

@@ -1,6 +1,6 @@
 -- Filler groups: document 01, 'Filler groups (KS X 1001)'. Four code points 3164, a, b, c become a
 -- syllable when a is an initial, b a peak and c a final or 3164. Groups are taken from the left.
-use Rattle.std.specs.Prelude.{Bool, cond, List, [], ◌∷◌, ◌++◌, ℕ, ◌+◌, ◌-◌, ◌*◌, eqb, get_or}
+use Rattle.std.specs.Prelude.{cond, List, [], ◌∷◌, ◌++◌, ℕ, ◌+◌, ◌-◌, ◌*◌, eqb, get_or}
 use Rattle.std.proofs.Math.Option.{Option, none, some}
 use Rattle.laws.specs.Ranges.{within}
 

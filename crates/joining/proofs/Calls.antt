@@ -1,7 +1,7 @@
 -- Demand 2's last sentence over the public call: where the parts of a text are within the limit,
 -- joining them and joining the text into equal buffers give the same answer and leave the same
 -- buffer.
-use mathlib.Core.Path.{◌≡◌, refl, sym, ◌∙◌, ap}
+use mathlib.Core.Path.{◌≡◌, sym, ◌∙◌}
 use mathlib.Core.Bool.{false}
 use mathlib.Core.List.{List}
 use Prim.Native.Nat.{ℕ, ◌≤◌}
@@ -12,7 +12,7 @@ use Rattle.answers.specs.Checks.{bad, passes, takes_text}
 use Rattle.answers.specs.Answers.{Makes}
 use Rattle.answers.specs.declared.answer.Filled.{Filled}
 use Rattle.answers.proofs.Checks.{good-taken}
-use Rattle.answers.proofs.Verdicts.{makes-unique, makes-same}
+use Rattle.answers.proofs.Verdicts.{makes-same}
 use Rattle.letters.specs.Syllables.{full_parts}
 use Rattle.letters.proofs.FullParts.{full-least, full-good}
 use Rattle.joining.specs.Joining.{join}

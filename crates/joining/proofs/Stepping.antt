@@ -1,7 +1,7 @@
 -- A text's pieces, as the loops over it ask for them, and that the readings of a step's answers are
 -- injective.
 use mathlib.Core.Path.{◌≡◌, refl, sym, ◌∙◌}
-use mathlib.Core.List.{List, [], ◌∷◌}
+use mathlib.Core.List.{List, []}
 use Prim.Native.Nat.{ℕ, ◌+◌, ◌≤◌, ◌<◌}
 use lib.ListN.{length, get_or, drop}
 use Rattle.laws.specs.Machines.{from}

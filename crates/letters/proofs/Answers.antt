@@ -1,8 +1,6 @@
 -- The readings of the sorter's and the one step's answers, and of the full parts of a code point,
 -- are injective: any two answers that a contract admits are equal.
-use mathlib.Core.Path.{◌≡◌, refl, sym, ◌∙◌, ap}
-use mathlib.Core.List.{List, [], ◌∷◌}
-use Rattle.answers.specs.Answers.{refused_by}
+use mathlib.Core.Path.{◌≡◌, ap}
 use Rattle.answers.proofs.Answers.{refused_by-injective}
 use Rattle.letters.specs.declared.sort.Sorted.{Sorted}
 use Rattle.letters.specs.declared.sort.Sorted.TheVariants.{Is, Refused as SortRefused}

@@ -1,17 +1,17 @@
 -- The one step is the Standard's canonical decomposition mapping of Hangul syllables, and full
 -- parts are its full canonical decomposition: for every number, with no bound.
-use mathlib.Core.Path.{◌≡◌, refl, sym, ◌∙◌, ap}
+use mathlib.Core.Path.{◌≡◌, refl, sym, ◌∙◌}
 use mathlib.Core.Bool.{Bool, true, false, ◌&&◌}
-use mathlib.Core.List.{List, [], ◌∷◌}
-use Prim.Native.Nat.{ℕ, ◌+◌, ◌-◌, ◌*◌, ◌/◌, ◌%◌, ◌≤◌, ◌<◌}
+use mathlib.Core.List.{List}
+use Prim.Native.Nat.{ℕ}
 use native.Mathlib.Omega.{arith}
-use lib.Dec.{leb, ltb, eqb}
+use lib.Dec.{leb, ltb}
 use borrow.Author.Tests.{leb-true, leb-false, ltb-true, ltb-false, eq-eqb, ne_eqb}
 use Rattle.laws.specs.Lists.{each}
 use Rattle.laws.proofs.Lists.{each_same}
-use Rattle.letters.specs.Syllables.{is_syllable, index_of, initial_of, peak_of, final_of, one_step, parts_of, full_parts}
+use Rattle.letters.specs.Syllables.{is_syllable, one_step, parts_of, full_parts}
 use Rattle.letters.specs.Chapter3.{s_base, s_index, s_count, precomposed, mapping, decomposition}
-use Rattle.letters.proofs.Steps.{syllable-yes, syllable-below, syllable-above, syllable-least, by-step, step-lv, step-lvt-multiple, step_other}
+use Rattle.letters.proofs.Steps.{syllable-yes, syllable-below, syllable-above, by-step, step-lv, step-lvt-multiple, step_other}
 use Rattle.letters.proofs.FullParts.{parts-lv, parts-lvt, parts-other}
 
 -- a precomposed syllable is one of AC00–D7A3

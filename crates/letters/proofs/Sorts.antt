@@ -13,7 +13,7 @@ use lib.ListN.{get_or}
 use borrow.Author.Tests.{eq-eqb, ne_eqb, eqb-true}
 use Rattle.laws.specs.Lists.{All, none, also, count}
 use Rattle.laws.specs.Ranges.{within}
-use Rattle.laws.proofs.Bools.{test, and-T-left, and-T-right}
+use Rattle.laws.proofs.Bools.{and-T-left, and-T-right}
 use Rattle.laws.proofs.Lists.{count-zero}
 use Rattle.laws.proofs.Ranges.{within-yes, within-below, within-above, within-least, within-most, between, uncut, look-between, look-above, Inside, look-inside}
 use Rattle.laws.proofs.Tables.{absent, absent-all}

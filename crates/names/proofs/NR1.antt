@@ -1,7 +1,7 @@
 -- THE NAME IS NR1'S (`name-nr1`): document 01's three strings are the short names that Jamo.txt
 -- gives to the letters of the syllable's full canonical decomposition. One computed test for each
 -- of document 01's lists holds it to Jamo.txt; the rule follows for every syllable.
-use mathlib.Core.Path.{◌≡◌, refl, sym, ◌∙◌, ap}
+use mathlib.Core.Path.{◌≡◌, refl, ◌∙◌, ap}
 use mathlib.Core.Bool.{Bool, true, false}
 use mathlib.Core.List.{List, [], ◌++◌, append-nil}
 use Prim.Native.Nat.{ℕ, ◌+◌, ◌<◌}

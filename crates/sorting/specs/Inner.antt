@@ -1,5 +1,5 @@
 -- What the helpers that put a record in its place ask and promise.
-use Rattle.std.specs.Prelude.{◌≡◌, List, ◌∷◌, ◌++◌, ℕ, suc, ◌+◌, ◌-◌, ◌≤◌, ◌<◌, length, get_or, take, drop}
+use Rattle.std.specs.Prelude.{◌≡◌, List, ◌∷◌, ◌++◌, ℕ, suc, ◌-◌, ◌≤◌, ◌<◌, length, get_or, take, drop}
 use Rattle.ranking.specs.declared.order.Order.TheVariants.{Before}
 use Rattle.sorting.specs.Sorting.{standing, Sorted}
 use Rattle.sorting.specs.declared.records.Span.{Span}

@@ -1,7 +1,6 @@
 -- `answers::check::check_text` meets its contract: the limit, then the first bad code point.
 use Rattle.answers.proofs.Checks.{text-over, text-bad, text-taken}
 use mathlib.Core.Path.{sym}
-use borrow.Author.Rules.{rules}
 use Rattle.answers.proofs.check.check_text.Goals as goal
 
 pub returns-then-text-gt-LIMIT : goal.returns-then-text-gt-LIMIT

@@ -1,8 +1,6 @@
-use mathlib.Core.Path.{◌≡◌, sym, ◌∙◌}
-use Prim.Native.Nat.{◌≤◌, ◌-◌, ◌+◌}
-use lib.ListN.{length, drop}
+use mathlib.Core.Path.{sym, ◌∙◌}
 use borrow.Author.Rules.{rules}
-use Rattle.answers.specs.Checks.{bad, first_bad}
+use Rattle.answers.specs.Checks.{bad}
 use Rattle.laws.proofs.Lists.{first_next, first-here, first-end}
 use Rattle.answers.proofs.check.first_bad.Goals as goal
 

@@ -1,11 +1,9 @@
 -- `answers::check::first_bad` meets its contract. The loop's invariant: i and the first bad one of
 -- what is left make up the index wanted.
-use mathlib.Core.Path.{◌≡◌, sym, ◌∙◌}
+use mathlib.Core.Path.{◌≡◌}
 use Prim.Native.Nat.{◌≤◌, ◌-◌, ◌+◌}
 use lib.ListN.{length, drop}
-use borrow.Author.Rules.{rules}
-use Rattle.answers.specs.Checks.{bad, first_bad}
-use Rattle.laws.proofs.Lists.{first_next, first-here, first-end}
+use Rattle.answers.specs.Checks.{first_bad}
 use Rattle.answers.proofs.check.first_bad.Given as goal
 
 abbrev pub invariant-loop-i : goal.invariant-loop-i

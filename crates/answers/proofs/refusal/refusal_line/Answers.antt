@@ -4,7 +4,6 @@ use mathlib.Core.Path.{refl}
 use native.Mathlib.Omega.{arith}
 use Rattle.answers.specs.Answers.{refused_line}
 use Rattle.answers.proofs.Answers.{number-below}
-use borrow.Author.Rules.{rules}
 use Rattle.answers.proofs.refusal.refusal_line.Goals as goal
 
 pub overflow_cast-line : goal.overflow_cast-line

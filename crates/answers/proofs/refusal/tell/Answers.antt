@@ -1,7 +1,6 @@
 -- `answers::refusal::tell` meets its contract: each return knows which refusal it was handed.
 use Rattle.answers.specs.Answers.{told}
 use mathlib.Core.Path.{sym, ap}
-use borrow.Author.Rules.{rules}
 use Rattle.answers.proofs.refusal.tell.Goals as goal
 
 pub returns-in-OverLimit : goal.returns-in-OverLimit

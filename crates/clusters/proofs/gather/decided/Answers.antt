@@ -1,7 +1,6 @@
 -- `clusters::gather::decided` meets its contract: plain text stays; three letters, else two, else
 -- the first alone.
 use Rattle.clusters.proofs.Gathering.{decided-plain, decided-three, decided-two, decided-one}
-use borrow.Author.Rules.{rules}
 use Rattle.clusters.proofs.gather.decided.Goals as goal
 
 pub returns-then-first-lt4352 : goal.returns-then-first-lt4352

@@ -1,7 +1,6 @@
 -- `clusters::gather::flush` meets its contract: each return knows what was not decided.
 use Rattle.clusters.specs.Inner.{gather_flush}
 use mathlib.Core.Path.{sym, ◌∙◌, ap}
-use borrow.Author.Rules.{rules}
 use Rattle.clusters.proofs.gather.flush.Goals as goal
 
 pub returns-in-Nothing : goal.returns-in-Nothing

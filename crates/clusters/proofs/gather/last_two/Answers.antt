@@ -1,7 +1,6 @@
 -- `clusters::gather::last_two` meets its contract: two letters at the end are a cluster, or they
 -- are not.
 use Rattle.clusters.proofs.Gathering.{flush-cluster, flush-apart}
-use borrow.Author.Rules.{rules}
 use Rattle.clusters.proofs.gather.last_two.Goals as goal
 
 pub returns-then-two-ne0 : goal.returns-then-two-ne0

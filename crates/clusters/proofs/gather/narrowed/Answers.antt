@@ -2,7 +2,6 @@
 -- span, or the span is as it was.
 use native.Mathlib.Omega.{arith}
 use Rattle.clusters.proofs.Clustering.{covers_more, covers-none}
-use borrow.Author.Rules.{rules}
 use Rattle.clusters.proofs.gather.narrowed.Goals as goal
 
 pub returns-then-letter-span : goal.returns-then-letter-span

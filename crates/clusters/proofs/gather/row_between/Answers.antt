@@ -1,6 +1,5 @@
-use Rattle.clusters.proofs.Clustering.{Missed, missed-none, missed_more, searched-hit, searched-miss}
+use Rattle.clusters.proofs.Clustering.{missed-none, missed_more, searched-hit, searched-miss}
 use mathlib.Core.Path.{refl}
-use Prim.Native.Nat.{◌≤◌, ◌-◌}
 use borrow.Author.Rules.{rules}
 use Rattle.clusters.proofs.gather.row_between.Goals as goal
 

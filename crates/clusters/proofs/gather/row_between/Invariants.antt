@@ -1,9 +1,7 @@
 -- `clusters::gather::row_between` meets its contract. The loop's invariant: no code before this one
 -- has the row.
-use Rattle.clusters.proofs.Clustering.{Missed, missed-none, missed_more, searched-hit, searched-miss}
-use mathlib.Core.Path.{refl}
+use Rattle.clusters.proofs.Clustering.{Missed}
 use Prim.Native.Nat.{◌≤◌, ◌-◌}
-use borrow.Author.Rules.{rules}
 use Rattle.clusters.proofs.gather.row_between.Given as goal
 
 abbrev pub invariant-loop-code : goal.invariant-loop-code

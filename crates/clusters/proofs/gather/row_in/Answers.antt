@@ -1,7 +1,6 @@
 -- `clusters::gather::row_in` meets its contract: found in the first part of the span, or else in
 -- the second, or in neither.
 use Rattle.clusters.proofs.Clustering.{found_first, found-second}
-use borrow.Author.Rules.{rules}
 use Rattle.clusters.proofs.gather.row_in.Goals as goal
 
 pub returns-then-found-ne0 : goal.returns-then-found-ne0

@@ -1,10 +1,8 @@
 -- `clusters::gather::span_of` meets its contract: the span of the letter's place, or any where it
 -- is in no cluster.
 use mathlib.Core.Path.{refl}
-use mathlib.Core.Logic.{⊎_elim}
 use native.Mathlib.Omega.{arith}
 use Rattle.clusters.proofs.Clustering.{covers-when}
-use borrow.Author.Rules.{rules}
 use Rattle.clusters.proofs.gather.span_of.Goals as goal
 use Rattle.clusters.proofs.gather.span_of.Goals.{in_default-via-then-letter-lt4352, in_default-via-else-letter-lt4352+else-letter-lt4447+then-letter-lt4449, in_default-via-else-letter-lt4352+else-letter-lt4447+else-letter-lt4449+else-letter-lt4520+else-letter-lt4608}
 
@@ -19,9 +17,9 @@ returns-in-4520-to-4607 c = covers-when _ _ (λ l h. absurd (omega arith)) (λ l
 
 pub returns-in_default : goal.returns-in_default
 returns-in_default c = elim c.in_default.branch [
-  in_default-via-then-letter-lt4352 w ↦ covers-when _ _ (λ l h. absurd (omega arith)) (λ l h. absurd (omega arith)) (λ l h. absurd (omega arith))
+  | in_default-via-then-letter-lt4352 w ↦ covers-when _ _ (λ l h. absurd (omega arith)) (λ l h. absurd (omega arith)) (λ l h. absurd (omega arith))
   | in_default-via-else-letter-lt4352+else-letter-lt4447+then-letter-lt4449 w ↦
-    covers-when _ _ (λ l h. absurd (omega arith)) (λ l h. absurd (omega arith)) (λ l h. absurd (omega arith))
+      covers-when _ _ (λ l h. absurd (omega arith)) (λ l h. absurd (omega arith)) (λ l h. absurd (omega arith))
   | in_default-via-else-letter-lt4352+else-letter-lt4447+else-letter-lt4449+else-letter-lt4520+else-letter-lt4608 w ↦
-    covers-when _ _ (λ l h. absurd (omega arith)) (λ l h. absurd (omega arith)) (λ l h. absurd (omega arith))
+      covers-when _ _ (λ l h. absurd (omega arith)) (λ l h. absurd (omega arith)) (λ l h. absurd (omega arith))
 ]

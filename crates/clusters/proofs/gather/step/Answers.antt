@@ -1,6 +1,5 @@
 -- `clusters::gather::step` meets its contract: each return knows what was not decided.
 use Rattle.clusters.proofs.Gathering.{stepped-nothing, stepped-one, stepped-two}
-use borrow.Author.Rules.{rules}
 use Rattle.clusters.proofs.gather.step.Goals as goal
 
 pub returns-in-Nothing : goal.returns-in-Nothing

@@ -2,7 +2,6 @@
 -- else the search finds the cluster.
 use mathlib.Core.List.{[], ◌∷◌}
 use Rattle.clusters.proofs.Clustering.{second-zero, third-zero, three-found}
-use borrow.Author.Rules.{rules}
 use Rattle.clusters.proofs.gather.three_of.Goals as goal
 
 pub returns-then-second-eq0 : goal.returns-then-second-eq0

@@ -2,7 +2,6 @@
 -- search finds the cluster.
 use mathlib.Core.List.{[], ◌∷◌}
 use Rattle.clusters.proofs.Clustering.{two-zero, two-found}
-use borrow.Author.Rules.{rules}
 use Rattle.clusters.proofs.gather.two_of.Goals as goal
 
 pub returns-then-second-eq0 : goal.returns-then-second-eq0

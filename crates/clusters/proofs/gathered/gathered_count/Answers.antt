@@ -1,13 +1,8 @@
 use Rattle.clusters.proofs.Loops.{gathered-begin, gathered-piece, gathered-last, scratch-room, scratch-rest, turned-length, wrote-size}
 use Rattle.clusters.proofs.GatheredForm.{gathered-most}
-use Rattle.clusters.specs.Inner.{coded, state_of}
-use Rattle.clusters.specs.Gathering.{gathered}
-use Rattle.laws.proofs.Filling.{Counting, counting-begin, counting-fits, counting_more, counting-last, wrote-length}
-use Rattle.laws.specs.Machines.{from}
-use lib.ListN.{length, drop}
+use Rattle.laws.proofs.Filling.{counting-begin, counting-fits, counting_more, counting-last, wrote-length}
 use native.Mathlib.Omega.{arith}
-use Prim.Native.Nat.{◌≤◌, ◌-◌}
-use mathlib.Core.Path.{◌≡◌, refl, ◌∙◌}
+use mathlib.Core.Path.{refl, ◌∙◌}
 use borrow.Author.Rules.{rules}
 use Rattle.clusters.proofs.gathered.gathered_count.Goals as goal
 

@@ -1,17 +1,13 @@
 -- `clusters::gathered::gathered_count` meets its contract. The loop's invariant: what is counted
 -- and what is still to come make up the whole, and the fourteen places that it writes to stay
 -- fourteen.
-use Rattle.clusters.proofs.Loops.{gathered-begin, gathered-piece, gathered-last, scratch-room, scratch-rest, turned-length, wrote-size}
-use Rattle.clusters.proofs.GatheredForm.{gathered-most}
 use Rattle.clusters.specs.Inner.{coded, state_of}
 use Rattle.clusters.specs.Gathering.{gathered}
-use Rattle.laws.proofs.Filling.{Counting, counting-begin, counting-fits, counting_more, counting-last, wrote-length}
+use Rattle.laws.proofs.Filling.{Counting}
 use Rattle.laws.specs.Machines.{from}
 use lib.ListN.{length, drop}
-use native.Mathlib.Omega.{arith}
 use Prim.Native.Nat.{◌≤◌, ◌-◌}
-use mathlib.Core.Path.{◌≡◌, refl, ◌∙◌}
-use borrow.Author.Rules.{rules}
+use mathlib.Core.Path.{◌≡◌}
 use Rattle.clusters.proofs.gathered.gathered_count.Given as goal
 
 abbrev pub invariant-loop-i : goal.invariant-loop-i

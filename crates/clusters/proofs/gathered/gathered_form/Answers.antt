@@ -3,7 +3,6 @@
 use Rattle.clusters.specs.Gathering.{gathered}
 use Rattle.answers.proofs.Verdicts.{checks-passed, makes-refused, makes-lacking, makes-done}
 use Rattle.answers.proofs.Checks.{text-short, lacking-room}
-use borrow.Author.Rules.{rules}
 use Rattle.clusters.proofs.gathered.gathered_form.Goals as goal
 
 pub gathered_lacking-needed-requires : goal.gathered_lacking-needed-requires

@@ -1,10 +1,5 @@
 use Rattle.clusters.proofs.Loops.{filling-start, gathered-begin, gathered_next, gathered-piece, gathered-last}
-use Rattle.clusters.specs.Inner.{coded, state_of}
-use Rattle.clusters.specs.Gathering.{gathered}
-use Rattle.laws.proofs.Filling.{Filling, filling-length, filling-room, filling-more, filling-last, wrote-length}
-use Rattle.laws.specs.Machines.{from}
-use lib.ListN.{length, drop}
-use Prim.Native.Nat.{◌≤◌, ◌-◌}
+use Rattle.laws.proofs.Filling.{filling-length, filling-room, filling-more, filling-last, wrote-length}
 use mathlib.Core.Path.{◌∙◌}
 use borrow.Author.Rules.{rules}
 use Rattle.clusters.proofs.gathered.gathered_into.Goals as goal

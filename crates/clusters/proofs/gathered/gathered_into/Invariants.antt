@@ -1,14 +1,11 @@
 -- `clusters::gathered::gathered_into` meets its contract. The loop's invariant: what is written and
 -- what is still to come make up the whole.
-use Rattle.clusters.proofs.Loops.{filling-start, gathered-begin, gathered_next, gathered-piece, gathered-last}
 use Rattle.clusters.specs.Inner.{coded, state_of}
 use Rattle.clusters.specs.Gathering.{gathered}
-use Rattle.laws.proofs.Filling.{Filling, filling-length, filling-room, filling-more, filling-last, wrote-length}
+use Rattle.laws.proofs.Filling.{Filling}
 use Rattle.laws.specs.Machines.{from}
 use lib.ListN.{length, drop}
 use Prim.Native.Nat.{◌≤◌, ◌-◌}
-use mathlib.Core.Path.{◌∙◌}
-use borrow.Author.Rules.{rules}
 use Rattle.clusters.proofs.gathered.gathered_into.Given as goal
 
 abbrev pub invariant-loop-read : goal.invariant-loop-read

@@ -1,7 +1,6 @@
 -- `clusters::gathered::put_code` meets its contract: a step of the joiner is written.
 use Rattle.clusters.proofs.Writing.{room-code, joined-code}
 use Rattle.laws.proofs.Filling.{wrote-all}
-use borrow.Author.Rules.{rules}
 use Rattle.clusters.proofs.gathered.put_code.Goals as goal
 
 pub returns : goal.returns

@@ -2,7 +2,6 @@
 use Rattle.clusters.proofs.Writing.{room-only, room-first-code, room-second-code, joined-none, joined-one, joined-two}
 use Rattle.joining.specs.Answers.{emitted}
 use mathlib.Core.Path.{◌∙◌, ap}
-use borrow.Author.Rules.{rules}
 use Rattle.clusters.proofs.gathered.put_codes.Goals as goal
 
 pub put_code-requires : goal.put_code-requires

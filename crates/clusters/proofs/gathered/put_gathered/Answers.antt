@@ -2,7 +2,6 @@
 -- point.
 use Rattle.clusters.proofs.Writing.{letters-fit, letters-taken, room-taken, turned_taken}
 use Rattle.clusters.proofs.SimpleForm.{simple-of-most}
-use borrow.Author.Rules.{rules}
 use Rattle.clusters.proofs.gathered.put_gathered.Goals as goal
 
 pub put_letters-requires : goal.put_letters-requires

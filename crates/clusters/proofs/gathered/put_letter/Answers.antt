@@ -1,7 +1,6 @@
 -- `clusters::gathered::put_letter` meets its contract: the gatherer's step, and the joiner's steps
 -- over what that writes.
 use Rattle.clusters.proofs.Writing.{room-letter, turned-letter}
-use borrow.Author.Rules.{rules}
 use Rattle.clusters.proofs.gathered.put_letter.Goals as goal
 
 pub put_codes-requires : goal.put_codes-requires

@@ -1,7 +1,5 @@
-use Rattle.clusters.proofs.Writing.{Going, going-begin, going-room, going_more, going_end, letters-next, letters-end}
+use Rattle.clusters.proofs.Writing.{going-begin, going-room, going_more, going_end, letters-next, letters-end}
 use Rattle.laws.proofs.Filling.{wrote-length}
-use lib.ListN.{length, take, drop}
-use Prim.Native.Nat.{◌≤◌, ◌-◌}
 use borrow.Author.Rules.{rules}
 use Rattle.clusters.proofs.gathered.put_letters.Goals as goal
 

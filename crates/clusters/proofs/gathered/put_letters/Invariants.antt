@@ -1,10 +1,8 @@
 -- `clusters::gathered::put_letters` meets its contract. The loop's invariant: of the letters those
 -- before `i` are taken (`Going`).
-use Rattle.clusters.proofs.Writing.{Going, going-begin, going-room, going_more, going_end, letters-next, letters-end}
-use Rattle.laws.proofs.Filling.{wrote-length}
-use lib.ListN.{length, take, drop}
+use Rattle.clusters.proofs.Writing.{Going}
+use lib.ListN.{take, drop}
 use Prim.Native.Nat.{◌≤◌, ◌-◌}
-use borrow.Author.Rules.{rules}
 use Rattle.clusters.proofs.gathered.put_letters.Given as goal
 
 abbrev pub invariant-loop-i : goal.invariant-loop-i

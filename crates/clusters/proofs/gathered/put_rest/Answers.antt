@@ -2,7 +2,6 @@
 -- joiner, and then what the joiner holds.
 use Rattle.clusters.proofs.Writing.{room-rest, room-last, wrote-rest}
 use Rattle.laws.proofs.Filling.{wrote-all}
-use borrow.Author.Rules.{rules}
 use Rattle.clusters.proofs.gathered.put_rest.Goals as goal
 
 pub put_codes-next-requires : goal.put_codes-next-requires

@@ -1,7 +1,6 @@
 -- `clusters::gathered::writer_at` meets its contract: nothing is open.
 use Rattle.clusters.proofs.Loops.{start-state}
 use mathlib.Core.Path.{refl}
-use borrow.Author.Rules.{rules}
 use Rattle.clusters.proofs.gathered.writer_at.Goals as goal
 
 pub returns : goal.returns

@@ -1,7 +1,6 @@
 -- `clusters::simple::put_part` meets its contract: the letters of the row that was read are those
 -- of the part.
 use Rattle.clusters.proofs.Rows.{room-read, wrote-read}
-use borrow.Author.Rules.{rules}
 use Rattle.clusters.proofs.simple.put_part.Goals as goal
 
 pub put_row-requires : goal.put_row-requires

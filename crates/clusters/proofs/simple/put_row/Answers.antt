@@ -3,7 +3,6 @@
 use lib.ListN.{length-set}
 use Rattle.laws.proofs.Filling.{wrote_one, wrote-pair, wrote-three}
 use Rattle.clusters.proofs.Rows.{by_one, by_two, by_three, by-room-two, by-room-three}
-use borrow.Author.Rules.{rules}
 use Rattle.clusters.proofs.simple.put_row.Goals as goal
 
 pub returns-then-row-eq0 : goal.returns-then-row-eq0

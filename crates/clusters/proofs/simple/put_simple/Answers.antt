@@ -2,7 +2,6 @@
 -- one after the other.
 use Rattle.clusters.proofs.SimpleForm.{simple-two, simple-three, two-rows, room-one-part, wrote-one-part}
 use Rattle.laws.proofs.Filling.{room-first, room-second, wrote-two}
-use borrow.Author.Rules.{rules}
 use Rattle.clusters.proofs.simple.put_simple.Goals as goal
 
 pub put_part-requires : goal.put_part-requires

@@ -1,12 +1,8 @@
 use mathlib.Core.Path.{refl, sym}
 use Rattle.clusters.proofs.SimpleForm.{simple-each, simple-piece, simple-end, simple-most}
 use Rattle.clusters.proofs.Loops.{wrote-size}
-use Rattle.clusters.specs.Simple.{simple_of, simple}
-use Rattle.laws.proofs.Filling.{Counting, counting-begin, counting-fits, counting_more, counting-all}
-use Rattle.laws.specs.Lists.{each}
+use Rattle.laws.proofs.Filling.{counting-begin, counting-fits, counting_more, counting-all}
 use native.Mathlib.Omega.{arith}
-use lib.ListN.{length, drop}
-use Prim.Native.Nat.{◌≤◌, ◌-◌}
 use borrow.Author.Rules.{rules}
 use Rattle.clusters.proofs.simple.simple_count.Goals as goal
 
@@ -15,12 +11,12 @@ loop-i-init c = (search rules, counting-begin (sym (simple-each c.args.text.now)
 
 pub overflow_add-count : goal.overflow_add-count
 overflow_add-count c = omega (
-      arith,
-      counting-fits c.loop-i.invariant.1 (simple-piece _ _ c.loop-i-test.true)
-          (wrote-size refl c.letters_of-letters.ensures),
-      simple-most c.args.text.now,
-      c.requires.text_len_bound,
-    )
+  arith,
+  counting-fits c.loop-i.invariant.1 (simple-piece _ _ c.loop-i-test.true)
+      (wrote-size refl c.letters_of-letters.ensures),
+  simple-most c.args.text.now,
+  c.requires.text_len_bound,
+)
 
 pub loop-i-preserved : goal.loop-i-preserved
 loop-i-preserved c = (

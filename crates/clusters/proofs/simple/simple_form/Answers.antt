@@ -3,7 +3,6 @@
 use Rattle.clusters.specs.Simple.{simple}
 use Rattle.answers.proofs.Verdicts.{checks-passed, makes-refused, makes-lacking, makes-done}
 use Rattle.answers.proofs.Checks.{text-short, lacking-room}
-use borrow.Author.Rules.{rules}
 use Rattle.clusters.proofs.simple.simple_form.Goals as goal
 
 pub simple_lacking-needed-requires : goal.simple_lacking-needed-requires

@@ -1,10 +1,6 @@
 use mathlib.Core.Path.{sym}
 use Rattle.clusters.proofs.SimpleForm.{simple-each, simple-piece, simple-end}
-use Rattle.clusters.specs.Simple.{simple_of, simple}
-use Rattle.laws.proofs.Filling.{Filling, filling-begin, filling-length, filling-room, filling-more, filling-all}
-use Rattle.laws.specs.Lists.{each}
-use lib.ListN.{length, drop}
-use Prim.Native.Nat.{◌≤◌, ◌-◌}
+use Rattle.laws.proofs.Filling.{filling-begin, filling-length, filling-room, filling-more, filling-all}
 use borrow.Author.Rules.{rules}
 use Rattle.clusters.proofs.simple.simple_into.Goals as goal
 
@@ -12,8 +8,11 @@ pub loop-read-init : goal.loop-read-init
 loop-read-init c = (search rules, filling-begin _ (sym (simple-each c.args.text.now)))
 
 pub put_simple-at-requires : goal.put_simple-at-requires
-put_simple-at-requires c = record { rows = c.requires.rows; room = filling-room c.requires.text_in_bounds c.loop-read.invariant.1
-      (simple-piece _ _ c.loop-read-test.true) }
+put_simple-at-requires c = record {
+  rows = c.requires.rows;
+  room = filling-room c.requires.text_in_bounds c.loop-read.invariant.1
+      (simple-piece _ _ c.loop-read-test.true);
+}
 
 pub loop-read-preserved : goal.loop-read-preserved
 loop-read-preserved c = (

@@ -1,13 +1,10 @@
 -- `clusters::simple::simple_into` meets its contract. The loop's invariant: what is written and
 -- what is left make up the whole.
-use mathlib.Core.Path.{sym}
-use Rattle.clusters.proofs.SimpleForm.{simple-each, simple-piece, simple-end}
 use Rattle.clusters.specs.Simple.{simple_of, simple}
-use Rattle.laws.proofs.Filling.{Filling, filling-begin, filling-length, filling-room, filling-more, filling-all}
+use Rattle.laws.proofs.Filling.{Filling}
 use Rattle.laws.specs.Lists.{each}
 use lib.ListN.{length, drop}
 use Prim.Native.Nat.{◌≤◌, ◌-◌}
-use borrow.Author.Rules.{rules}
 use Rattle.clusters.proofs.simple.simple_into.Given as goal
 
 abbrev pub invariant-loop-read : goal.invariant-loop-read

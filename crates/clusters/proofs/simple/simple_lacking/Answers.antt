@@ -3,7 +3,6 @@
 use Rattle.clusters.proofs.SimpleForm.{simple-most}
 use Rattle.answers.proofs.Checks.{lacking-none, lacking-counted}
 use native.Mathlib.Omega.{arith}
-use borrow.Author.Rules.{rules}
 use Rattle.clusters.proofs.simple.simple_lacking.Goals as goal
 
 pub returns-then-text-room : goal.returns-then-text-room

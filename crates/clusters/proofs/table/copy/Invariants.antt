@@ -1,10 +1,8 @@
 -- `clusters::table::copy` meets its contract. The loop's invariant: the numbers read so far fill
 -- the front, and the rest are still to be copied.
 use Prim.Native.Nat.{◌≤◌, ◌-◌}
-use native.Mathlib.Omega.{arith}
 use lib.ListN.{length, drop}
-use Rattle.laws.proofs.Filling.{Filling, filling-none, filling-length, copy-next, copy-all}
-use borrow.Author.Rules.{rules}
+use Rattle.laws.proofs.Filling.{Filling}
 use Rattle.clusters.proofs.table.copy.Given as goal
 
 abbrev pub invariant-loop-at : goal.invariant-loop-at

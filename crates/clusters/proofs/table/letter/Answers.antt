@@ -1,5 +1,4 @@
 -- `clusters::table::letter` meets its contract: 0 for no letter, else the distance from 10FF.
-use borrow.Author.Rules.{rules}
 use borrow.Author.Tests.{eq-eqb, ne_eqb}
 use Rattle.clusters.proofs.table.letter.Goals as goal
 

@@ -5,7 +5,6 @@ use native.Mathlib.Omega.{arith}
 use Rattle.clusters.specs.Inner.{packs-none}
 use Rattle.clusters.proofs.Codes.{in_table, in-initials, in-peaks, in-finals, before-table, before-initials, before-peaks, before-finals, after-finals}
 use Rattle.clusters.proofs.Rows.{table-size, row-packed}
-use borrow.Author.Rules.{rules}
 use Rattle.clusters.proofs.table.packed_at.Goals as goal
 
 pub bounds-table-code : goal.bounds-table-code

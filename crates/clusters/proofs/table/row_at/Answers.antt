@@ -1,7 +1,6 @@
 -- `clusters::table::row_at` meets its contract: the number of the code's row, unpacked, or the code
 -- alone where there is none.
 use Rattle.clusters.proofs.Rows.{row_read, row-alone}
-use borrow.Author.Rules.{rules}
 use Rattle.clusters.proofs.table.row_at.Goals as goal
 
 pub returns-then-packed-eq0 : goal.returns-then-packed-eq0

@@ -2,7 +2,6 @@
 use mathlib.Core.Path.{refl}
 use lib.ListN.{replicate}
 use Rattle.clusters.proofs.Rows.{both-rows}
-use borrow.Author.Rules.{rules}
 use Rattle.clusters.proofs.table.table.Goals as goal
 
 pub returns : goal.returns

@@ -5,7 +5,6 @@ use Prim.Native.Nat.{◌+◌, ◌-◌, ◌*◌}
 use native.Mathlib.Omega.{arith}
 use Rattle.fillers.specs.Inner.{or_none}
 use Rattle.fillers.proofs.Letters.{final-filler, final-low, final-high, final-read}
-use borrow.Author.Rules.{rules}
 use Rattle.fillers.proofs.group.final_of.Goals as goal
 
 pub bounds-table-code : goal.bounds-table-code

@@ -5,7 +5,6 @@ use Rattle.fillers.proofs.Fours.{short-here, no-group-here, group-here}
 use Rattle.fillers.proofs.Letters.{initial-below, peak-below, final-below, read_none, read_some, initial-most, peak-most, final-most}
 use Rattle.fillers.specs.Groups.{as_initial, as_peak, as_final}
 use native.Mathlib.Omega.{arith}
-use borrow.Author.Rules.{rules}
 use Rattle.fillers.proofs.group.group_at.Goals as goal
 
 pub returns-then-text-at : goal.returns-then-text-at
@@ -32,52 +31,52 @@ returns-then-last-eq-NONE c = no-group-here c.args.text.now c.args.at c.if-text-
 
 pub overflow_mul-result : goal.overflow_mul-result
 overflow_mul-result c = omega (
-      arith,
-      initial-most _ c.initial_of-initial.ensures,
-      peak-most _ c.peak_of-peak.ensures,
-      final-most _ c.final_of-last.ensures,
-    )
+  arith,
+  initial-most _ c.initial_of-initial.ensures,
+  peak-most _ c.peak_of-peak.ensures,
+  final-most _ c.final_of-last.ensures,
+)
 
 pub overflow_add-result : goal.overflow_add-result
 overflow_add-result c = omega (
-      arith,
-      initial-most _ c.initial_of-initial.ensures,
-      peak-most _ c.peak_of-peak.ensures,
-      final-most _ c.final_of-last.ensures,
-    )
+  arith,
+  initial-most _ c.initial_of-initial.ensures,
+  peak-most _ c.peak_of-peak.ensures,
+  final-most _ c.final_of-last.ensures,
+)
 
 pub overflow_mul-result-2 : goal.overflow_mul-result-2
 overflow_mul-result-2 c = omega (
-      arith,
-      initial-most _ c.initial_of-initial.ensures,
-      peak-most _ c.peak_of-peak.ensures,
-      final-most _ c.final_of-last.ensures,
-    )
+  arith,
+  initial-most _ c.initial_of-initial.ensures,
+  peak-most _ c.peak_of-peak.ensures,
+  final-most _ c.final_of-last.ensures,
+)
 
 pub overflow_add-result-2 : goal.overflow_add-result-2
 overflow_add-result-2 c = omega (
-      arith,
-      initial-most _ c.initial_of-initial.ensures,
-      peak-most _ c.peak_of-peak.ensures,
-      final-most _ c.final_of-last.ensures,
-    )
+  arith,
+  initial-most _ c.initial_of-initial.ensures,
+  peak-most _ c.peak_of-peak.ensures,
+  final-most _ c.final_of-last.ensures,
+)
 
 pub overflow_add-result-3 : goal.overflow_add-result-3
 overflow_add-result-3 c = omega (
-      arith,
-      initial-most _ c.initial_of-initial.ensures,
-      peak-most _ c.peak_of-peak.ensures,
-      final-most _ c.final_of-last.ensures,
-    )
+  arith,
+  initial-most _ c.initial_of-initial.ensures,
+  peak-most _ c.peak_of-peak.ensures,
+  final-most _ c.final_of-last.ensures,
+)
 
 pub returns : goal.returns
 returns c = group-here c.args.text.now c.args.at c.if-text-at-lt4.false (record {
-      filler = c.if-text-at-ne12644.false;
-      i = _;
-      p = _;
-      f = _;
-      first = read_some (as_initial _) c.initial_of-initial.ensures c.if-initial-eq-NONE.false;
-      peak = read_some (as_peak _) c.peak_of-peak.ensures c.if-peak-eq-NONE.false;
-      last = read_some (as_final _) c.final_of-last.ensures c.if-last-eq-NONE.false;
-      makes = refl;
-    })
+  filler = c.if-text-at-ne12644.false;
+  i = _;
+  p = _;
+  f = _;
+  first = read_some (as_initial _) c.initial_of-initial.ensures c.if-initial-eq-NONE.false;
+  peak = read_some (as_peak _) c.peak_of-peak.ensures c.if-peak-eq-NONE.false;
+  last = read_some (as_final _) c.final_of-last.ensures c.if-last-eq-NONE.false;
+  makes = refl;
+})

@@ -5,7 +5,6 @@ use Prim.Native.Nat.{◌-◌, ◌*◌}
 use native.Mathlib.Omega.{arith}
 use Rattle.fillers.specs.Inner.{or_none}
 use Rattle.fillers.proofs.Letters.{initial-low, initial-high, initial-read}
-use borrow.Author.Rules.{rules}
 use Rattle.fillers.proofs.group.initial_of.Goals as goal
 
 pub bounds-table-code : goal.bounds-table-code

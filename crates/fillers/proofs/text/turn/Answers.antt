@@ -3,7 +3,6 @@
 use Rattle.answers.proofs.Verdicts.{checks-passed, makes-refused, makes-lacking, makes-done}
 use Rattle.fillers.specs.Groups.{turned}
 use Rattle.answers.proofs.Checks.{lacking-room}
-use borrow.Author.Rules.{rules}
 use Rattle.fillers.proofs.text.turn.Goals as goal
 
 pub returns-then-needed-ne0 : goal.returns-then-needed-ne0

@@ -1,9 +1,5 @@
 use Rattle.fillers.proofs.Turned.{copied-piece, group-piece, group-inside, written-most, place-left, turned-end}
-use Rattle.fillers.specs.Groups.{turned}
-use Rattle.laws.proofs.Filling.{Filling, filling-none, filling-length, filling-more, filling-all, wrote_one}
-use lib.ListN.{length, drop}
-use Prim.Native.Nat.{◌-◌, ◌≤◌}
-use mathlib.Core.Logic.{⊎_elim}
+use Rattle.laws.proofs.Filling.{filling-none, filling-length, filling-more, filling-all, wrote_one}
 use mathlib.Core.Path.{refl}
 use native.Mathlib.Omega.{arith}
 use borrow.Author.Rules.{rules}
@@ -35,7 +31,7 @@ loop-read-smaller c = elim c.if-syllable-eq0.branch [ then-syllable-eq0 w ↦ om
 
 pub loop-read-preserved : goal.loop-read-preserved
 loop-read-preserved c = let found = c.group_at-syllable.ensures in elim c.if-syllable-eq0.branch [
-  then-syllable-eq0 w ↦ rw (w.read-is, w.out-is) (
+  | then-syllable-eq0 w ↦ rw (w.read-is, w.out-is) (
     omega arith,
     filling-more c.requires.text_in_bounds c.loop-read.invariant.1
         (copied-piece _ _ c.loop-read-test.true found w.if-syllable-eq0.true) (wrote_one refl),

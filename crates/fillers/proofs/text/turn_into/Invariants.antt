@@ -1,14 +1,9 @@
 -- `fillers::text::turn_into` meets its contract. The loop's invariant: what is written and what is
 -- left make up the whole.
-use Rattle.fillers.proofs.Turned.{copied-piece, group-piece, group-inside, written-most, place-left, turned-end}
 use Rattle.fillers.specs.Groups.{turned}
-use Rattle.laws.proofs.Filling.{Filling, filling-none, filling-length, filling-more, filling-all, wrote_one}
+use Rattle.laws.proofs.Filling.{Filling}
 use lib.ListN.{length, drop}
 use Prim.Native.Nat.{◌-◌, ◌≤◌}
-use mathlib.Core.Logic.{⊎_elim}
-use mathlib.Core.Path.{refl}
-use native.Mathlib.Omega.{arith}
-use borrow.Author.Rules.{rules}
 use Rattle.fillers.proofs.text.turn_into.Given as goal
 
 abbrev pub invariant-loop-read : goal.invariant-loop-read

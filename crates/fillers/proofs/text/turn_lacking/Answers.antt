@@ -3,7 +3,6 @@
 use Rattle.answers.proofs.Checks.{lacking-none, lacking-counted}
 use Rattle.fillers.proofs.Turned.{turned-most}
 use native.Mathlib.Omega.{arith}
-use borrow.Author.Rules.{rules}
 use Rattle.fillers.proofs.text.turn_lacking.Goals as goal
 
 pub returns-then-text-room : goal.returns-then-text-room

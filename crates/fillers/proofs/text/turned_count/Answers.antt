@@ -1,9 +1,5 @@
 use Rattle.fillers.proofs.Turned.{turned-most, copied-piece, group-piece, group-inside, turned-end}
-use Rattle.fillers.specs.Groups.{turned}
-use Rattle.laws.proofs.Filling.{Counting, counting-none, counting_more, counting-all}
-use lib.ListN.{length, drop}
-use Prim.Native.Nat.{◌-◌, ◌≤◌}
-use mathlib.Core.Logic.{⊎_elim}
+use Rattle.laws.proofs.Filling.{counting-none, counting_more, counting-all}
 use mathlib.Core.Path.{refl}
 use native.Mathlib.Omega.{arith}
 use borrow.Author.Rules.{rules}
@@ -15,17 +11,17 @@ loop-read-init c = (search rules, counting-none _)
 
 pub overflow_add-count : goal.overflow_add-count
 overflow_add-count c = omega (
-      arith,
-      c.loop-read.invariant.1.sum,
-      turned-most c.args.text.now,
-    )
+  arith,
+  c.loop-read.invariant.1.sum,
+  turned-most c.args.text.now,
+)
 
 pub loop-read-smaller : goal.loop-read-smaller
 loop-read-smaller c = elim c.if-syllable-eq0.branch [ then-syllable-eq0 w ↦ omega arith | else-syllable-eq0 w ↦ omega arith ]
 
 pub loop-read-preserved : goal.loop-read-preserved
 loop-read-preserved c = let found = c.group_at-syllable.ensures in elim c.if-syllable-eq0.branch [
-  then-syllable-eq0 w ↦ rw w.read-is (
+  | then-syllable-eq0 w ↦ rw w.read-is (
     omega arith,
     counting_more c.loop-read.invariant.1 (copied-piece _ _ c.loop-read-test.true found w.if-syllable-eq0.true) refl,
   )

@@ -1,14 +1,9 @@
 -- `fillers::text::turned_count` meets its contract. The loop's invariant: what is counted and what
 -- is left make up the whole.
-use Rattle.fillers.proofs.Turned.{turned-most, copied-piece, group-piece, group-inside, turned-end}
 use Rattle.fillers.specs.Groups.{turned}
-use Rattle.laws.proofs.Filling.{Counting, counting-none, counting_more, counting-all}
+use Rattle.laws.proofs.Filling.{Counting}
 use lib.ListN.{length, drop}
 use Prim.Native.Nat.{◌-◌, ◌≤◌}
-use mathlib.Core.Logic.{⊎_elim}
-use mathlib.Core.Path.{refl}
-use native.Mathlib.Omega.{arith}
-use borrow.Author.Rules.{rules}
 use Rattle.fillers.proofs.text.turned_count.Given as goal
 
 abbrev pub invariant-loop-read : goal.invariant-loop-read

@@ -2,7 +2,6 @@
 use Rattle.joining.specs.Joining.{meets}
 use Rattle.joining.specs.declared.joiner.Open.{Open}
 use mathlib.Core.Path.{sym, ◌∙◌, ap}
-use borrow.Author.Rules.{rules}
 use Rattle.joining.proofs.joiner.met.Goals as goal
 
 pub returns-in-Nothing : goal.returns-in-Nothing

@@ -1,7 +1,6 @@
 -- `joining::joiner::opened` meets its contract: each return knows the role of the code point.
 use Rattle.joining.proofs.Joins.{opens_as_lem}
-use mathlib.Core.Path.{sym, ◌∙◌, ap}
-use borrow.Author.Rules.{rules}
+use mathlib.Core.Path.{sym, ◌∙◌}
 use Rattle.joining.proofs.joiner.opened.Goals as goal
 
 pub returns-in-Initial : goal.returns-in-Initial

@@ -3,7 +3,6 @@ use Rattle.joining.specs.Joining.{held, unless}
 use mathlib.Core.List.{◌++◌, append-nil}
 use Rattle.joining.specs.declared.joiner.Open.{Open}
 use mathlib.Core.Path.{sym, ◌∙◌, ap}
-use borrow.Author.Rules.{rules}
 use Rattle.joining.proofs.joiner.parted.Goals as goal
 
 pub returns-in-Nothing : goal.returns-in-Nothing

@@ -5,7 +5,6 @@ use Rattle.laws.proofs.Filling.{wrote_one, wrote-pair, wrote-empty, wrote-fitted
 use native.Mathlib.Omega.{arith}
 use lib.ListN.{length-set}
 use mathlib.Core.Path.{ap}
-use borrow.Author.Rules.{rules}
 use Rattle.joining.proofs.joiner.put.Goals as goal
 
 pub returns-then-out-at : goal.returns-then-out-at

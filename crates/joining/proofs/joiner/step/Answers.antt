@@ -1,6 +1,5 @@
 -- `joining::joiner::step` meets its contract: what is open and the code point join, or they do not.
 use Rattle.joining.proofs.Joiners.{stepped-apart, stepped-joined}
-use borrow.Author.Rules.{rules}
 use Rattle.joining.proofs.joiner.step.Goals as goal
 
 pub returns-then-syllable-eq0 : goal.returns-then-syllable-eq0

@@ -1,7 +1,6 @@
 -- `joining::joiner::written` meets its contract: each return knows what is open.
 use Rattle.joining.specs.Joining.{held}
-use mathlib.Core.Path.{sym, ◌∙◌, ap}
-use borrow.Author.Rules.{rules}
+use mathlib.Core.Path.{sym, ap}
 use Rattle.joining.proofs.joiner.written.Goals as goal
 
 pub returns-in-Nothing : goal.returns-in-Nothing

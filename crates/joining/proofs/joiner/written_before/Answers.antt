@@ -2,8 +2,7 @@
 use Rattle.joining.specs.Joining.{held}
 use mathlib.Core.List.{[], ◌∷◌, ◌++◌}
 use Rattle.joining.specs.declared.joiner.Open.{Open}
-use mathlib.Core.Path.{sym, ◌∙◌, ap}
-use borrow.Author.Rules.{rules}
+use mathlib.Core.Path.{sym, ap}
 use Rattle.joining.proofs.joiner.written_before.Goals as goal
 
 pub returns-in-Nothing : goal.returns-in-Nothing

@@ -4,25 +4,24 @@ use Rattle.joining.proofs.Pairs.{pair-as, pair-lvt}
 use Rattle.joining.proofs.Roles.{lv-syllable, final-range}
 use Rattle.letters.proofs.Steps.{syllable-most}
 use native.Mathlib.Omega.{arith}
-use mathlib.Core.Path.{sym, ◌∙◌, ap}
-use borrow.Author.Rules.{rules}
+use mathlib.Core.Path.{sym, ◌∙◌}
 use Rattle.joining.proofs.role.before_final.Goals as goal
 
 pub overflow_sub-result : goal.overflow_sub-result
 overflow_sub-result c = omega (
-      arith,
-      syllable-most c.args.first
-          (lv-syllable c.args.first (sym c.role_of-role.ensures ∙ c.in-Lv.is)),
-      final-range c.args.last c.requires,
-    )
+  arith,
+  syllable-most c.args.first
+      (lv-syllable c.args.first (sym c.role_of-role.ensures ∙ c.in-Lv.is)),
+  final-range c.args.last c.requires,
+)
 
 pub overflow_add-result : goal.overflow_add-result
 overflow_add-result c = omega (
-      arith,
-      syllable-most c.args.first
-          (lv-syllable c.args.first (sym c.role_of-role.ensures ∙ c.in-Lv.is)),
-      final-range c.args.last c.requires,
-    )
+  arith,
+  syllable-most c.args.first
+      (lv-syllable c.args.first (sym c.role_of-role.ensures ∙ c.in-Lv.is)),
+  final-range c.args.last c.requires,
+)
 
 pub returns-in-Lv : goal.returns-in-Lv
 returns-in-Lv c = sym (pair-lvt _ _ (sym c.role_of-role.ensures ∙ c.in-Lv.is) c.requires)

@@ -3,51 +3,50 @@
 use Rattle.joining.proofs.Pairs.{pair-as, pair-lv}
 use Rattle.joining.proofs.Roles.{initial-range, peak-range}
 use native.Mathlib.Omega.{arith}
-use mathlib.Core.Path.{sym, ◌∙◌, ap}
-use borrow.Author.Rules.{rules}
+use mathlib.Core.Path.{sym, ◌∙◌}
 use Rattle.joining.proofs.role.before_peak.Goals as goal
 
 pub overflow_sub-result : goal.overflow_sub-result
 overflow_sub-result c = omega (
-      arith,
-      initial-range c.args.first (sym c.role_of-role.ensures ∙ c.in-Initial.is),
-      peak-range c.args.peak c.requires,
-    )
+  arith,
+  initial-range c.args.first (sym c.role_of-role.ensures ∙ c.in-Initial.is),
+  peak-range c.args.peak c.requires,
+)
 
 pub overflow_mul-result : goal.overflow_mul-result
 overflow_mul-result c = omega (
-      arith,
-      initial-range c.args.first (sym c.role_of-role.ensures ∙ c.in-Initial.is),
-      peak-range c.args.peak c.requires,
-    )
+  arith,
+  initial-range c.args.first (sym c.role_of-role.ensures ∙ c.in-Initial.is),
+  peak-range c.args.peak c.requires,
+)
 
 pub overflow_add-result : goal.overflow_add-result
 overflow_add-result c = omega (
-      arith,
-      initial-range c.args.first (sym c.role_of-role.ensures ∙ c.in-Initial.is),
-      peak-range c.args.peak c.requires,
-    )
+  arith,
+  initial-range c.args.first (sym c.role_of-role.ensures ∙ c.in-Initial.is),
+  peak-range c.args.peak c.requires,
+)
 
 pub overflow_sub-result-in-Initial : goal.overflow_sub-result-in-Initial
 overflow_sub-result-in-Initial c = omega (
-      arith,
-      initial-range c.args.first (sym c.role_of-role.ensures ∙ c.in-Initial.is),
-      peak-range c.args.peak c.requires,
-    )
+  arith,
+  initial-range c.args.first (sym c.role_of-role.ensures ∙ c.in-Initial.is),
+  peak-range c.args.peak c.requires,
+)
 
 pub overflow_mul-result-in-Initial : goal.overflow_mul-result-in-Initial
 overflow_mul-result-in-Initial c = omega (
-      arith,
-      initial-range c.args.first (sym c.role_of-role.ensures ∙ c.in-Initial.is),
-      peak-range c.args.peak c.requires,
-    )
+  arith,
+  initial-range c.args.first (sym c.role_of-role.ensures ∙ c.in-Initial.is),
+  peak-range c.args.peak c.requires,
+)
 
 pub overflow_add-result-in-Initial : goal.overflow_add-result-in-Initial
 overflow_add-result-in-Initial c = omega (
-      arith,
-      initial-range c.args.first (sym c.role_of-role.ensures ∙ c.in-Initial.is),
-      peak-range c.args.peak c.requires,
-    )
+  arith,
+  initial-range c.args.first (sym c.role_of-role.ensures ∙ c.in-Initial.is),
+  peak-range c.args.peak c.requires,
+)
 
 pub returns-in-Initial : goal.returns-in-Initial
 returns-in-Initial c = sym (pair-lv _ _ (sym c.role_of-role.ensures ∙ c.in-Initial.is) c.requires)

@@ -1,8 +1,7 @@
 -- `joining::role::joined` meets its contract: only a peak and a final join with what stands before
 -- them.
 use Rattle.joining.proofs.Pairs.{pair-firm}
-use mathlib.Core.Path.{sym, ◌∙◌, ap}
-use borrow.Author.Rules.{rules}
+use mathlib.Core.Path.{sym, ◌∙◌}
 use Rattle.joining.proofs.role.joined.Goals as goal
 
 pub before_peak-requires : goal.before_peak-requires

@@ -1,7 +1,6 @@
 -- `joining::role::role_of` meets its contract: at each return it is known whether the number is a
 -- modern letter or a syllable, and `role-none` says of all others that they have no role.
 use mathlib.Core.Path.{sym}
-use mathlib.Core.Logic.{⊎_elim}
 use native.Mathlib.Omega.{arith}
 use Rattle.letters.proofs.Steps.{syllable-yes, syllable-least, syllable-most}
 use Rattle.joining.proofs.Roles.{role-initial, role-peak, role-final, role-lv, role-lvt, role-none}
@@ -37,7 +36,7 @@ returns-in_default-code-3 c = sym (role-none _ (λ h. omega arith) (λ h. omega 
 
 pub returns-in_default-code-4 : goal.returns-in_default-code-4
 returns-in_default-code-4 c = elim c.in_default.branch [
-  in_default-via-then-code-lt44032 w ↦ sym (role-none _ (λ h. omega arith) (λ h. omega arith) (λ h. omega arith) (λ s. omega (arith, syllable-least _ s)))
+  | in_default-via-then-code-lt44032 w ↦ sym (role-none _ (λ h. omega arith) (λ h. omega arith) (λ h. omega arith) (λ s. omega (arith, syllable-least _ s)))
   | in_default-via-else-code-lt44032+else-code-lt55204 w ↦
-    sym (role-none _ (λ h. omega arith) (λ h. omega arith) (λ h. omega arith) (λ s. omega (arith, syllable-most _ s)))
+      sym (role-none _ (λ h. omega arith) (λ h. omega arith) (λ h. omega arith) (λ s. omega (arith, syllable-most _ s)))
 ]

@@ -3,7 +3,6 @@
 use Rattle.joining.specs.Joining.{join}
 use Rattle.answers.proofs.Verdicts.{checks-passed, makes-refused, makes-lacking, makes-done}
 use Rattle.answers.proofs.Checks.{text-short, lacking-room}
-use borrow.Author.Rules.{rules}
 use Rattle.joining.proofs.text.join.Goals as goal
 
 pub join_lacking-needed-requires : goal.join_lacking-needed-requires

@@ -3,7 +3,6 @@
 use Rattle.joining.proofs.Joins.{join-most}
 use Rattle.answers.proofs.Checks.{lacking-none, lacking-counted}
 use native.Mathlib.Omega.{arith}
-use borrow.Author.Rules.{rules}
 use Rattle.joining.proofs.text.join_lacking.Goals as goal
 
 pub returns-then-text-room : goal.returns-then-text-room

@@ -1,11 +1,7 @@
 use Rattle.joining.proofs.Stepping.{join-begin, join-piece, join_last}
 use Rattle.joining.proofs.Joins.{join-most}
 use native.Mathlib.Omega.{arith}
-use Rattle.laws.proofs.Filling.{Counting, counting-begin, counting-fits, counting_more, counting-last}
-use Prim.Native.Nat.{◌≤◌, ◌-◌}
-use lib.ListN.{length, drop}
-use Rattle.laws.specs.Machines.{from}
-use Rattle.joining.specs.Joining.{join, joiner as machine}
+use Rattle.laws.proofs.Filling.{counting-begin, counting-fits, counting_more, counting-last}
 use borrow.Author.Rules.{rules}
 use Rattle.joining.proofs.text.joined_count.Goals as goal
 
@@ -14,12 +10,12 @@ loop-i-init c = (search rules, counting-begin (join-begin c.args.text.now c.star
 
 pub overflow_add-count : goal.overflow_add-count
 overflow_add-count c = omega (
-      arith,
-      counting-fits c.loop-i.invariant.1
-          (join-piece _ _ _ c.loop-i-test.true c.step-step.ensures) c.count_of-count.ensures,
-      join-most c.args.text.now,
-      c.requires,
-    )
+  arith,
+  counting-fits c.loop-i.invariant.1
+      (join-piece _ _ _ c.loop-i-test.true c.step-step.ensures) c.count_of-count.ensures,
+  join-most c.args.text.now,
+  c.requires,
+)
 
 pub loop-i-preserved : goal.loop-i-preserved
 loop-i-preserved c = (
@@ -30,12 +26,12 @@ loop-i-preserved c = (
 
 pub overflow_add-result : goal.overflow_add-result
 overflow_add-result c = omega (
-      arith,
-      counting-last c.loop-i.invariant.1 (join_last _ _ _ c.loop-i-test.false c.flush.ensures)
-          c.count_of.ensures,
-      join-most c.args.text.now,
-      c.requires,
-    )
+  arith,
+  counting-last c.loop-i.invariant.1 (join_last _ _ _ c.loop-i-test.false c.flush.ensures)
+      c.count_of.ensures,
+  join-most c.args.text.now,
+  c.requires,
+)
 
 pub returns : goal.returns
 returns c = counting-last c.loop-i.invariant.1 (join_last _ _ _ c.loop-i-test.false c.flush.ensures)

@@ -1,10 +1,6 @@
 use Rattle.joining.proofs.Stepping.{join-begin, join-piece, join_last}
 use mathlib.Core.Path.{◌∙◌}
-use Rattle.laws.proofs.Filling.{Filling, filling-begin, filling-length, filling-room, filling-more, filling-last, wrote-all}
-use Prim.Native.Nat.{◌≤◌, ◌-◌}
-use lib.ListN.{length, drop}
-use Rattle.laws.specs.Machines.{from}
-use Rattle.joining.specs.Joining.{join, joiner as machine}
+use Rattle.laws.proofs.Filling.{filling-begin, filling-length, filling-room, filling-more, filling-last, wrote-all}
 use borrow.Author.Rules.{rules}
 use Rattle.joining.proofs.text.write_joined.Goals as goal
 

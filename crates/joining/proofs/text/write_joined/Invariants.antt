@@ -1,13 +1,10 @@
 -- `joining::text::write_joined` meets its contract. The loop's invariant: what is written and what
 -- is still to come make up the whole.
-use Rattle.joining.proofs.Stepping.{join-begin, join-piece, join_last}
-use mathlib.Core.Path.{◌∙◌}
-use Rattle.laws.proofs.Filling.{Filling, filling-begin, filling-length, filling-room, filling-more, filling-last, wrote-all}
+use Rattle.laws.proofs.Filling.{Filling}
 use Prim.Native.Nat.{◌≤◌, ◌-◌}
 use lib.ListN.{length, drop}
 use Rattle.laws.specs.Machines.{from}
 use Rattle.joining.specs.Joining.{join, joiner as machine}
-use borrow.Author.Rules.{rules}
 use Rattle.joining.proofs.text.write_joined.Given as goal
 
 abbrev pub invariant-loop-read : goal.invariant-loop-read

@@ -1,7 +1,5 @@
-use Prim.Native.Nat.{◌≤◌, ◌-◌}
 use native.Mathlib.Omega.{arith}
-use Rattle.labels.specs.Images.{count_of}
-use Rattle.labels.proofs.Judging.{Judging, faulty-none, faulty-some, judging-none, judging-more, judging-bad, judging-all}
+use Rattle.labels.proofs.Judging.{faulty-none, faulty-some, judging-none, judging-more, judging-bad, judging-all}
 use borrow.Author.Rules.{rules}
 use Rattle.labels.proofs.image.judge_records.Goals as goal
 

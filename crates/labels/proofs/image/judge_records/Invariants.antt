@@ -1,10 +1,8 @@
 -- `labels::image::judge_records` meets its contract. The loop's invariant: the records from the
 -- number on are judged as all are.
 use Prim.Native.Nat.{◌≤◌, ◌-◌}
-use native.Mathlib.Omega.{arith}
 use Rattle.labels.specs.Images.{count_of}
-use Rattle.labels.proofs.Judging.{Judging, faulty-none, faulty-some, judging-none, judging-more, judging-bad, judging-all}
-use borrow.Author.Rules.{rules}
+use Rattle.labels.proofs.Judging.{Judging}
 use Rattle.labels.proofs.image.judge_records.Given as goal
 
 abbrev pub invariant-loop-number : goal.invariant-loop-number

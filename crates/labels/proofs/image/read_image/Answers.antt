@@ -1,7 +1,6 @@
 -- `labels::image::read_image` meets its contract: the checks refuse, or the records are judged.
 use Rattle.answers.proofs.Verdicts.{checks-passed}
 use Rattle.labels.proofs.Judging.{judges-refused}
-use borrow.Author.Rules.{rules}
 use Rattle.labels.proofs.image.read_image.Goals as goal
 
 pub judge_records-requires : goal.judge_records-requires

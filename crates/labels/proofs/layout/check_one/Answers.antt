@@ -1,7 +1,6 @@
 -- `labels::layout::check_one` meets its contract: 1, then 6, then 7; the first that refuses
 -- decides.
 use Rattle.labels.proofs.Finding.{one-over, one_number, one_inside, one-record}
-use borrow.Author.Rules.{rules}
 use Rattle.labels.proofs.layout.check_one.Goals as goal
 
 pub returns-then-image-gt-MOST : goal.returns-then-image-gt-MOST

@@ -1,7 +1,6 @@
 -- `labels::layout::check_record` meets its contract: a byte found that is not 0 is the place of 7.
 use Rattle.labels.proofs.Judging.{faulty-none, faulty-some}
 use mathlib.Core.Path.{sym}
-use borrow.Author.Rules.{rules}
 use Rattle.labels.proofs.layout.check_record.Goals as goal
 
 pub returns-then-byte-ne0 : goal.returns-then-byte-ne0

@@ -2,7 +2,6 @@
 -- the first that breaks the layout decides.
 use Rattle.labels.proofs.Layouts.{fault-long, fault-spare, fault-ill, fault-tail, fault-none}
 use native.Mathlib.Omega.{arith}
-use borrow.Author.Rules.{rules}
 use Rattle.labels.proofs.layout.fault.Goals as goal
 
 pub overflow_cast-size : goal.overflow_cast-size

@@ -1,9 +1,7 @@
-use Prim.Native.Nat.{◌+◌, ◌≤◌, ◌-◌}
-use lib.ListN.{length, drop}
-use Rattle.labels.specs.Records.{is_set, first_set}
+use Rattle.labels.specs.Records.{is_set}
 use Rattle.laws.proofs.Lists.{first_next, first-here, first-end}
 use Rattle.labels.proofs.Places.{zero-unset, nonzero-set}
-use mathlib.Core.Path.{◌≡◌, refl}
+use mathlib.Core.Path.{refl}
 use borrow.Author.Rules.{rules}
 use Rattle.labels.proofs.layout.first_set.Goals as goal
 

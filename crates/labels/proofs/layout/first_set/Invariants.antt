@@ -2,11 +2,8 @@
 -- index on that is not zero is the one wanted.
 use Prim.Native.Nat.{◌+◌, ◌≤◌, ◌-◌}
 use lib.ListN.{length, drop}
-use Rattle.labels.specs.Records.{is_set, first_set}
-use Rattle.laws.proofs.Lists.{first_next, first-here, first-end}
-use Rattle.labels.proofs.Places.{zero-unset, nonzero-set}
-use mathlib.Core.Path.{◌≡◌, refl}
-use borrow.Author.Rules.{rules}
+use Rattle.labels.specs.Records.{first_set}
+use mathlib.Core.Path.{◌≡◌}
 use Rattle.labels.proofs.layout.first_set.Given as goal
 
 abbrev pub invariant-loop-at : goal.invariant-loop-at

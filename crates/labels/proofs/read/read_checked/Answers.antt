@@ -2,7 +2,6 @@
 -- copied if there is room.
 use Rattle.labels.proofs.Finding.{taken-inside, size-short, finds-lacking, finds-done}
 use native.Mathlib.Omega.{arith}
-use borrow.Author.Rules.{rules}
 use Rattle.labels.proofs.read.read_checked.Goals as goal
 
 pub entry_at-entry-requires : goal.entry_at-entry-requires
@@ -20,17 +19,17 @@ overflow_add-from c = omega (arith, taken-inside _ _ c.requires)
 
 pub overflow_add-to : goal.overflow_add-to
 overflow_add-to c = omega (
-      arith,
-      taken-inside _ _ c.requires,
-      size-short _ _ c.requires c.entry_at-entry.ensures,
-    )
+  arith,
+  taken-inside _ _ c.requires,
+  size-short _ _ c.requires c.entry_at-entry.ensures,
+)
 
 pub slice_bounds-copy-end : goal.slice_bounds-copy-end
 slice_bounds-copy-end c = omega (
-      arith,
-      taken-inside _ _ c.requires,
-      size-short _ _ c.requires c.entry_at-entry.ensures,
-    )
+  arith,
+  taken-inside _ _ c.requires,
+  size-short _ _ c.requires c.entry_at-entry.ensures,
+)
 
 pub returns : goal.returns
 returns c = finds-done _ _ c.requires

@@ -1,7 +1,6 @@
 -- `labels::read::read_record` meets its contract: the checks refuse, or the rest is done.
 use Rattle.answers.proofs.Verdicts.{checks-passed}
 use Rattle.labels.proofs.Finding.{finds-refused}
-use borrow.Author.Rules.{rules}
 use Rattle.labels.proofs.read.read_record.Goals as goal
 
 pub read_checked-requires : goal.read_checked-requires

@@ -1,7 +1,5 @@
-use Prim.Native.Nat.{◌≤◌, ◌-◌}
 use native.Mathlib.Omega.{arith}
-use lib.ListN.{length, drop}
-use Rattle.laws.proofs.Filling.{Filling, filling-none, filling-length, copy-next, copy-all}
+use Rattle.laws.proofs.Filling.{filling-none, filling-length, copy-next, copy-all}
 use borrow.Author.Rules.{rules}
 use Rattle.labels.proofs.record.copy.Goals as goal
 
@@ -10,11 +8,11 @@ loop-at-init c = (search rules, filling-none _ _)
 
 pub bounds-out-at : goal.bounds-out-at
 bounds-out-at c = omega (
-      arith,
-      filling-length c.requires c.loop-at.invariant.1,
-      c.loop-at-test.true,
-      c.requires,
-    )
+  arith,
+  filling-length c.requires c.loop-at.invariant.1,
+  c.loop-at-test.true,
+  c.requires,
+)
 
 pub loop-at-preserved : goal.loop-at-preserved
 loop-at-preserved c = (search rules, copy-next _ c.loop-at.invariant.1 c.requires c.loop-at-test.true)

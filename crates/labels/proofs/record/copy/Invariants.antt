@@ -1,10 +1,8 @@
 -- `labels::record::copy` meets its contract. The loop's invariant: the bytes read so far fill the
 -- front, and the rest are still to be copied.
 use Prim.Native.Nat.{◌≤◌, ◌-◌}
-use native.Mathlib.Omega.{arith}
 use lib.ListN.{length, drop}
-use Rattle.laws.proofs.Filling.{Filling, filling-none, filling-length, copy-next, copy-all}
-use borrow.Author.Rules.{rules}
+use Rattle.laws.proofs.Filling.{Filling}
 use Rattle.labels.proofs.record.copy.Given as goal
 
 abbrev pub invariant-loop-at : goal.invariant-loop-at

@@ -2,7 +2,6 @@
 -- record.
 use native.Mathlib.Omega.{arith}
 use Rattle.labels.proofs.Lookups.{entry-part}
-use borrow.Author.Rules.{rules}
 use Rattle.labels.proofs.record.entry_at.Goals as goal
 
 pub returns : goal.returns

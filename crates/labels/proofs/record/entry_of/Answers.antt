@@ -2,7 +2,6 @@
 -- its own bytes.
 use native.Mathlib.Omega.{arith}
 use Rattle.labels.proofs.Entries.{entry_read}
-use borrow.Author.Rules.{rules}
 use Rattle.labels.proofs.record.entry_of.Goals as goal
 
 pub overflow_cast-result : goal.overflow_cast-result

@@ -3,7 +3,6 @@
 use Prim.Native.Nat.{◌+◌, ◌*◌}
 use native.Mathlib.Omega.{arith}
 use Rattle.labels.proofs.Lookups.{label-none, label-long, label_is}
-use borrow.Author.Rules.{rules}
 use Rattle.labels.proofs.record.label_at.Goals as goal
 
 pub returns-then-image-number : goal.returns-then-image-number

@@ -2,7 +2,6 @@
 -- number of four.
 use native.Mathlib.Omega.{arith}
 use Rattle.labels.proofs.Entries.{object-read}
-use borrow.Author.Rules.{rules}
 use Rattle.labels.proofs.record.object_of.Goals as goal
 
 pub overflow_mul-result : goal.overflow_mul-result

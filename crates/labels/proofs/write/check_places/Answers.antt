@@ -1,7 +1,6 @@
 -- `labels::write::check_places` meets its contract: 1 for the image, 1 for the label, then 6; the
 -- first that refuses decides.
 use Rattle.labels.proofs.Storing.{places-over, places-label, places-number}
-use borrow.Author.Rules.{rules}
 use Rattle.labels.proofs.write.check_places.Goals as goal
 
 pub returns-then-image-gt-MOST : goal.returns-then-image-gt-MOST

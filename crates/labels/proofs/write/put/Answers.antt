@@ -1,6 +1,5 @@
 -- `labels::write::put` meets its contract: the 96 bytes of the record replace the 96 that are lent.
 use Rattle.labels.proofs.Storing.{put_whole}
-use borrow.Author.Rules.{rules}
 use Rattle.labels.proofs.write.put.Goals as goal
 
 pub returns : goal.returns

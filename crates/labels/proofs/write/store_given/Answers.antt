@@ -2,7 +2,6 @@
 -- record is.
 use native.Mathlib.Omega.{arith}
 use Rattle.labels.proofs.Storing.{stores-refused, stores-done}
-use borrow.Author.Rules.{rules}
 use Rattle.labels.proofs.write.store_given.Goals as goal
 
 pub returns-then-label-gt88 : goal.returns-then-label-gt88

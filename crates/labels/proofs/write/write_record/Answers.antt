@@ -3,7 +3,6 @@
 use native.Mathlib.Omega.{arith}
 use Rattle.answers.proofs.Verdicts.{checks-passed}
 use Rattle.labels.proofs.Storing.{stored-taken, stored-inside, writes-refused, writes-ill, writes-given, writes-joined}
-use borrow.Author.Rules.{rules}
 use Rattle.labels.proofs.write.write_record.Goals as goal
 
 pub returns-then-first_ill-label : goal.returns-then-first_ill-label

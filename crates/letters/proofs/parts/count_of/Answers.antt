@@ -3,7 +3,6 @@
 use Rattle.letters.proofs.FullParts.{count-lv, count-lvt, count-other}
 use Rattle.letters.proofs.Steps.{syllable-below, syllable-above}
 use native.Mathlib.Omega.{arith}
-use borrow.Author.Rules.{rules}
 use Rattle.letters.proofs.parts.count_of.Goals as goal
 
 pub returns-then-code-eq0 : goal.returns-then-code-eq0

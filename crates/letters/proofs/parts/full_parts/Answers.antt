@@ -3,7 +3,6 @@
 use Rattle.letters.specs.Syllables.{full_parts}
 use Rattle.answers.proofs.Verdicts.{checks-passed, makes-refused, makes-lacking, makes-done}
 use Rattle.answers.proofs.Checks.{text-short, lacking-room}
-use borrow.Author.Rules.{rules}
 use Rattle.letters.proofs.parts.full_parts.Goals as goal
 
 pub parts_lacking-needed-requires : goal.parts_lacking-needed-requires

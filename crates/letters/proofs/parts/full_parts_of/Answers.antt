@@ -4,7 +4,6 @@ use Rattle.letters.proofs.Steps.{syllable-yes, syllable-below, syllable-above}
 use Rattle.letters.proofs.FullParts.{parts-lv, parts-lvt, parts-other}
 use native.Mathlib.Omega.{arith}
 use mathlib.Core.Path.{sym}
-use borrow.Author.Rules.{rules}
 use Rattle.letters.proofs.parts.full_parts_of.Goals as goal
 
 pub returns-then-last-eq0 : goal.returns-then-last-eq0

@@ -1,10 +1,6 @@
 use Rattle.letters.proofs.FullParts.{parts-piece, parts-end, full-most}
-use Rattle.letters.specs.Syllables.{parts_of, full_parts}
-use Rattle.laws.proofs.Filling.{Counting, counting-none, counting-fits, counting_more, counting-all}
-use Rattle.laws.specs.Lists.{each}
-use lib.ListN.{length, drop}
+use Rattle.laws.proofs.Filling.{counting-none, counting-fits, counting_more, counting-all}
 use native.Mathlib.Omega.{arith}
-use Prim.Native.Nat.{◌≤◌, ◌-◌}
 use borrow.Author.Rules.{rules}
 use Rattle.letters.proofs.parts.parts_count.Goals as goal
 
@@ -13,11 +9,11 @@ loop-i-init c = (search rules, counting-none _)
 
 pub overflow_add-count : goal.overflow_add-count
 overflow_add-count c = omega (
-      arith,
-      counting-fits c.loop-i.invariant.1 (parts-piece _ _ c.loop-i-test.true) c.count_of-count.ensures,
-      full-most c.args.text.now,
-      c.requires,
-    )
+  arith,
+  counting-fits c.loop-i.invariant.1 (parts-piece _ _ c.loop-i-test.true) c.count_of-count.ensures,
+  full-most c.args.text.now,
+  c.requires,
+)
 
 pub loop-i-preserved : goal.loop-i-preserved
 loop-i-preserved c = (

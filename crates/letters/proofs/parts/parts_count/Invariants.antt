@@ -1,13 +1,10 @@
 -- `letters::parts::parts_count` meets its contract. The loop's invariant: what is counted and what
 -- is left make up the whole.
-use Rattle.letters.proofs.FullParts.{parts-piece, parts-end, full-most}
 use Rattle.letters.specs.Syllables.{parts_of, full_parts}
-use Rattle.laws.proofs.Filling.{Counting, counting-none, counting-fits, counting_more, counting-all}
+use Rattle.laws.proofs.Filling.{Counting}
 use Rattle.laws.specs.Lists.{each}
 use lib.ListN.{length, drop}
-use native.Mathlib.Omega.{arith}
 use Prim.Native.Nat.{◌≤◌, ◌-◌}
-use borrow.Author.Rules.{rules}
 use Rattle.letters.proofs.parts.parts_count.Given as goal
 
 abbrev pub invariant-loop-i : goal.invariant-loop-i

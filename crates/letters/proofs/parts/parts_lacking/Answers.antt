@@ -3,8 +3,6 @@
 use Rattle.letters.proofs.FullParts.{full-most}
 use Rattle.answers.proofs.Checks.{lacking-none, lacking-counted}
 use native.Mathlib.Omega.{arith}
-use mathlib.Core.Path.{sym, ◌∙◌}
-use borrow.Author.Rules.{rules}
 use Rattle.letters.proofs.parts.parts_lacking.Goals as goal
 
 pub returns-then-text-room : goal.returns-then-text-room

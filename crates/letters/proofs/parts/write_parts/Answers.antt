@@ -1,9 +1,5 @@
 use Rattle.letters.proofs.FullParts.{parts-piece, parts-end}
-use Rattle.letters.specs.Syllables.{parts_of, full_parts}
-use Rattle.laws.proofs.Filling.{Filling, filling-none, filling-length, filling-room, filling-more, filling-all}
-use Rattle.laws.specs.Lists.{each}
-use lib.ListN.{length, drop}
-use Prim.Native.Nat.{◌≤◌, ◌-◌}
+use Rattle.laws.proofs.Filling.{filling-none, filling-length, filling-room, filling-more, filling-all}
 use borrow.Author.Rules.{rules}
 use Rattle.letters.proofs.parts.write_parts.Goals as goal
 

@@ -1,12 +1,10 @@
 -- `letters::parts::write_parts` meets its contract. The loop's invariant: what is written and what
 -- is left make up the whole.
-use Rattle.letters.proofs.FullParts.{parts-piece, parts-end}
 use Rattle.letters.specs.Syllables.{parts_of, full_parts}
-use Rattle.laws.proofs.Filling.{Filling, filling-none, filling-length, filling-room, filling-more, filling-all}
+use Rattle.laws.proofs.Filling.{Filling}
 use Rattle.laws.specs.Lists.{each}
 use lib.ListN.{length, drop}
 use Prim.Native.Nat.{◌≤◌, ◌-◌}
-use borrow.Author.Rules.{rules}
 use Rattle.letters.proofs.parts.write_parts.Given as goal
 
 abbrev pub invariant-loop-read : goal.invariant-loop-read

@@ -2,7 +2,6 @@
 -- lies between, and `sort-between` says what the definition gives there. The inner match tests its
 -- single numbers first; after them, `apart` says it of bounds that have some of these between them.
 use mathlib.Core.Path.{◌≡◌, refl}
-use mathlib.Core.Logic.{⊎_elim}
 use mathlib.Core.List.{List, [], ◌∷◌}
 use Prim.Native.Nat.{ℕ, ◌+◌, ◌≤◌, ◌<◌}
 use native.Mathlib.Omega.{arith}
@@ -266,7 +265,7 @@ returns-in_default-code-2 c = sort-between 0x1200 0xA95F tt (omega arith) (omega
 
 pub returns-in_default-code-3 : goal.returns-in_default-code-3
 returns-in_default-code-3 c = elim c.in_default.branch [
-  in_default-via-then-code-lt44032 w ↦ sort-between 0xA97D 0xABFF tt (omega arith) (omega arith)
+  | in_default-via-then-code-lt44032 w ↦ sort-between 0xA97D 0xABFF tt (omega arith) (omega arith)
   | in_default-via-else-code-lt44032+else-code-lt55204 w ↦ sort-between 0xD7A4 0xD7AF tt (omega arith) (omega arith)
 ]
 

@@ -1,7 +1,6 @@
 -- `letters::sort::sorter` meets its contract: 2 where the code point is bad, else its sort.
 use Rattle.letters.specs.Sorts.{sort_of}
 use Rattle.answers.proofs.Verdicts.{refused-code, done-code}
-use borrow.Author.Rules.{rules}
 use Rattle.letters.proofs.sort.sorter.Goals as goal
 
 pub returns-then-is_bad : goal.returns-then-is_bad

@@ -1,7 +1,6 @@
 -- `letters::step::one_step` meets its contract: 2 where the code point is bad, else its parts.
 use Rattle.letters.specs.Syllables.{one_step}
 use Rattle.answers.proofs.Verdicts.{refused-code, done-code}
-use borrow.Author.Rules.{rules}
 use Rattle.letters.proofs.step.one_step.Goals as goal
 
 pub returns-then-is_bad : goal.returns-then-is_bad

@@ -3,7 +3,6 @@
 use Rattle.letters.proofs.Steps.{syllable-yes, syllable-below, syllable-above, step-lv, step-lvt-multiple, step_other}
 use native.Mathlib.Omega.{arith}
 use mathlib.Core.Path.{sym}
-use borrow.Author.Rules.{rules}
 use Rattle.letters.proofs.step.parts_of.Goals as goal
 
 pub returns-then-last-eq0 : goal.returns-then-last-eq0

@@ -1,6 +1,5 @@
 -- `listing::hex::digit` meets its contract: below 10, and from 10 on.
 use Rattle.listing.proofs.Digits.{digit_low, digit-high}
-use borrow.Author.Rules.{rules}
 use Rattle.listing.proofs.hex.digit.Goals as goal
 
 pub returns-then-value-lt10 : goal.returns-then-value-lt10

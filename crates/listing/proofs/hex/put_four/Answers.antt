@@ -4,7 +4,6 @@ use lib.ListN.{length-set}
 use Rattle.laws.proofs.Filling.{wrote-four}
 use Rattle.listing.proofs.Digits.{four_is}
 use Rattle.listing.proofs.HexWriting.{four-fits}
-use borrow.Author.Rules.{rules}
 use Rattle.listing.proofs.hex.put_four.Goals as goal
 
 pub bounds-out-at : goal.bounds-out-at

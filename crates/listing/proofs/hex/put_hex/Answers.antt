@@ -5,7 +5,6 @@ use native.Mathlib.Omega.{arith}
 use lib.ListN.{length-set}
 use Rattle.laws.proofs.Filling.{wrote_none, wrote_one, wrote-pair, wrote-two, wrote-length, room-one, room-pair, room-first, room-second}
 use Rattle.listing.proofs.HexWriting.{four-piece, five-piece, six-piece}
-use borrow.Author.Rules.{rules}
 use Rattle.listing.proofs.hex.put_hex.Goals as goal
 
 pub put_four-requires : goal.put_four-requires

@@ -3,7 +3,6 @@
 use Rattle.answers.proofs.Verdicts.{checks-passed}
 use Rattle.listing.proofs.Calls.{lists-refused, lists-lacking, lists-done}
 use Rattle.answers.proofs.Checks.{units-short, lacking-room}
-use borrow.Author.Rules.{rules}
 use Rattle.listing.proofs.lines.list.Goals as goal
 
 pub list_lacking-needed-requires : goal.list_lacking-needed-requires

@@ -1,11 +1,8 @@
-use Prim.Native.Nat.{◌-◌}
 use native.Mathlib.Omega.{arith}
-use lib.ListN.{length}
 use Rattle.laws.proofs.Filling.{filling-length}
-use Rattle.listing.proofs.Turns.{Writing, writing-none, line-room, writing_more, writing-all}
+use Rattle.listing.proofs.Turns.{writing-none, line-room, writing_more, writing-all}
 use Rattle.utf8.proofs.Round.{encodes8}
 use Rattle.mending.proofs.Characters.{character-next}
-use borrow.Author.Rules.{rules}
 use Rattle.listing.proofs.lines.list_into.Goals as goal
 
 pub loop-read-init : goal.loop-read-init

@@ -3,7 +3,6 @@
 use native.Mathlib.Omega.{arith}
 use Rattle.answers.proofs.Checks.{lacking-none, lacking-counted}
 use Rattle.listing.proofs.Bound.{listed-most}
-use borrow.Author.Rules.{rules}
 use Rattle.listing.proofs.lines.list_lacking.Goals as goal
 
 pub returns-then-text-room : goal.returns-then-text-room

@@ -1,11 +1,8 @@
 use mathlib.Core.Path.{refl}
-use Prim.Native.Nat.{◌-◌}
 use native.Mathlib.Omega.{arith}
-use lib.ListN.{length as length_of}
-use Rattle.listing.proofs.Turns.{Tallying, tallying-none, place-room, tallying-fits, tallying-more, tallying-all}
+use Rattle.listing.proofs.Turns.{tallying-none, place-room, tallying-fits, tallying-more, tallying-all}
 use Rattle.utf8.proofs.Round.{encodes8}
 use Rattle.mending.proofs.Characters.{character-next}
-use borrow.Author.Rules.{rules}
 use Rattle.listing.proofs.lines.listed_count.Goals as goal
 
 pub loop-read-init : goal.loop-read-init
@@ -19,10 +16,10 @@ put_line-length-requires c = place-room _ c.loop-read.invariant _
 
 pub overflow_add-length : goal.overflow_add-length
 overflow_add-length c = omega (
-      arith,
-      tallying-fits _ c.loop-read.invariant (character-next encodes8 _ _ c.loop-read-test.true c.character_at-taken.ensures)
-          c.put_line-length.ensures c.requires,
-    )
+  arith,
+  tallying-fits _ c.loop-read.invariant (character-next encodes8 _ _ c.loop-read-test.true c.character_at-taken.ensures)
+      c.put_line-length.ensures c.requires,
+)
 
 pub overflow_add-read : goal.overflow_add-read
 overflow_add-read c = omega (arith, (character-next encodes8 _ _ c.loop-read-test.true c.character_at-taken.ensures).goes.inside)

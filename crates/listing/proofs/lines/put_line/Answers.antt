@@ -24,11 +24,11 @@ bounds-out-after_name c = room-feed _ c.requires c.put_hex-after_code.ensures c.
 
 pub overflow_add-result : goal.overflow_add-result
 overflow_add-result c = omega (
-      arith,
-      room-feed _ c.requires c.put_hex-after_code.ensures c.put_name-after_name.ensures,
-      simp length-set at c.out-2-1.given,
-      c.out-1.given,
-    )
+  arith,
+  room-feed _ c.requires c.put_hex-after_code.ensures c.put_name-after_name.ensures,
+  simp length-set at c.out-2-1.given,
+  c.out-1.given,
+)
 
 pub returns : goal.returns
 returns c = wrote-line _ c.requires c.put_hex-after_code.ensures c.put_name-after_name.ensures

@@ -2,7 +2,6 @@
 -- on, or it refuses and leaves all, and - is stored.
 use native.Mathlib.Omega.{arith}
 use Rattle.listing.proofs.LineWriting.{name-fits, wrote-named, refused-index, wrote-unnamed}
-use borrow.Author.Rules.{rules}
 use Rattle.listing.proofs.lines.put_name.Goals as goal
 
 pub overflow_add-result : goal.overflow_add-result

@@ -3,7 +3,6 @@
 use Rattle.encodings.proofs.Taking.{test-true, test-false}
 use Rattle.utf8.specs.Utf8.{form8}
 use Rattle.mending.proofs.Characters.{one_inside, character-of-one, two-inside, character-of-two, character-of-three}
-use borrow.Author.Rules.{rules}
 use Rattle.mending.proofs.character.character_at.Goals as goal
 
 pub returns-then-not-goes_on : goal.returns-then-not-goes_on

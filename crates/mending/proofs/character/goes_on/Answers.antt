@@ -1,7 +1,6 @@
 -- `mending::character::goes_on` meets its contract: each return knows the role of the code point.
 use Rattle.mending.specs.Characters.{role_goes_on}
 use mathlib.Core.Path.{sym, ◌∙◌, ap}
-use borrow.Author.Rules.{rules}
 use Rattle.mending.proofs.character.goes_on.Goals as goal
 
 pub returns-in-Initial : goal.returns-in-Initial

@@ -1,5 +1,4 @@
 -- `mending::fast::character_at` meets its contract: the shorter way, or else the general one.
-use borrow.Author.Rules.{rules}
 use Rattle.mending.proofs.fast.character_at.Goals as goal
 
 pub returns : goal.returns

@@ -2,10 +2,8 @@
 use Rattle.encodings.specs.Reading.{good_of}
 use mathlib.Core.Path.{◌∙◌, ap}
 use native.Mathlib.Omega.{arith}
-use borrow.Author.Tests.{not-false}
 use Rattle.mending.proofs.FastPaths.{spelled_none}
 use Rattle.mending.proofs.Passes.{three-character}
-use borrow.Author.Rules.{rules}
 use Rattle.mending.proofs.fast.finished_at.Goals as goal
 
 pub returns-then-text-at-lt3 : goal.returns-then-text-at-lt3

@@ -2,7 +2,6 @@
 use native.Mathlib.Omega.{arith}
 use Rattle.mending.proofs.FastPaths.{spelled_none}
 use Rattle.mending.proofs.Passes.{low-character}
-use borrow.Author.Rules.{rules}
 use Rattle.mending.proofs.fast.shorter_at.Goals as goal
 
 pub returns-then-text-at : goal.returns-then-text-at

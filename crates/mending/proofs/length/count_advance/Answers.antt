@@ -3,7 +3,6 @@
 use Rattle.utf8.proofs.Round.{encodes8}
 use Rattle.mending.proofs.Turns.{count_fits, count-character}
 use Rattle.mending.proofs.Characters.{character-next}
-use borrow.Author.Rules.{rules}
 use Rattle.mending.proofs.length.count_advance.Goals as goal
 
 pub count_pass-requires : goal.count_pass-requires

@@ -1,8 +1,5 @@
-use lib.ListN.{length}
 use native.Mathlib.Omega.{arith}
-use Prim.Native.Nat.{◌-◌}
-use Rattle.utf8.specs.Utf8.{form8}
-use Rattle.mending.proofs.Turns.{Tallying, tallying-none, tallying-ready, tallying-more, tallying-all}
+use Rattle.mending.proofs.Turns.{tallying-none, tallying-ready, tallying-more, tallying-all}
 use Rattle.mending.proofs.Bound.{mended-most}
 use Rattle.mending.proofs.length.mended_count.Goals as goal
 

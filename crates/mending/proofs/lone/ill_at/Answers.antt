@@ -1,6 +1,5 @@
 -- `mending::lone::ill_at` meets its contract: what `ill_size` finds, read as FFFD.
 use mathlib.Core.Path.{refl, sym}
-use borrow.Author.Rules.{rules}
 use Rattle.mending.proofs.lone.ill_at.Goals as goal
 
 pub returns : goal.returns

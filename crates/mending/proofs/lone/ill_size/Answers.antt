@@ -4,7 +4,6 @@ use Rattle.mending.proofs.Alone.{stray-character, second-character, third-charac
 use mathlib.Core.Path.{refl}
 use native.Mathlib.Omega.{arith}
 use Rattle.encodings.proofs.Taking.{test-true, test-false}
-use borrow.Author.Rules.{rules}
 use Rattle.mending.proofs.lone.ill_size.Goals as goal
 
 pub returns-then-first-lt128 : goal.returns-then-first-lt128

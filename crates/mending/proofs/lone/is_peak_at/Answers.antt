@@ -1,7 +1,6 @@
 -- `mending::lone::is_peak_at` meets its contract: the tails of the modern peaks are one range.
 use Rattle.mending.proofs.Alone.{peak-none, peak-test}
 use native.Mathlib.Omega.{arith}
-use borrow.Author.Rules.{rules}
 use Rattle.mending.proofs.lone.is_peak_at.Goals as goal
 
 pub returns-then-tail-lt34209 : goal.returns-then-tail-lt34209

@@ -3,9 +3,7 @@
 use Rattle.mending.proofs.Alone.{letter-triple, letter-character}
 use Rattle.mending.proofs.FastPaths.{spelled_none}
 use native.Mathlib.Omega.{arith}
-use mathlib.Core.Logic.{⊎_elim}
 use mathlib.Core.Path.{sym, ◌∙◌}
-use borrow.Author.Rules.{rules}
 use Rattle.mending.proofs.lone.letter_at.Goals as goal
 use Rattle.mending.proofs.lone.letter_at.Goals.{then-tail-le33938+else-is_peak_at, else-tail-le33938}
 
@@ -21,7 +19,7 @@ returns-then-is_peak_at c = record { value = spelled_none c.none-then-is_peak_at
 pub returns : goal.returns
 returns c = record {
   value = λ n. letter-character _ _ c.tail_at-tail.ensures (c.letter_of.ensures n) (λ h. elim c.if-tail-le33938.branch [
-    then-tail-le33938+else-is_peak_at w ↦ sym w.is_peak_at.ensures ∙ w.if-is_peak_at.false
+    | then-tail-le33938+else-is_peak_at w ↦ sym w.is_peak_at.ensures ∙ w.if-is_peak_at.false
     | else-tail-le33938 w ↦ absurd (omega (arith, h, w.if-tail-le33938.false))
   ]);
   triple = λ n. letter-triple (c.letter_of.ensures n);

@@ -3,7 +3,6 @@
 use Rattle.mending.proofs.Alone.{of-tail}
 use Rattle.mending.proofs.FastPaths.{spelled_none}
 use native.Mathlib.Omega.{arith}
-use borrow.Author.Rules.{rules}
 use Rattle.mending.proofs.lone.letter_of.Goals as goal
 
 pub returns-then-third-lt128 : goal.returns-then-third-lt128

@@ -2,7 +2,6 @@
 -- other tail is that of none.
 use Rattle.mending.proofs.Spelling.{final-low, final-high, final-none}
 use native.Mathlib.Omega.{arith}
-use borrow.Author.Rules.{rules}
 use Rattle.mending.proofs.spelled.final_at.Goals as goal
 
 pub returns-in-34472-to-34495 : goal.returns-in-34472-to-34495

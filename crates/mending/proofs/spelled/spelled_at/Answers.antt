@@ -22,31 +22,36 @@ returns-then-peak-gt34229 c = record { value = spelled_none c.none-then-peak-gt3
 
 pub overflow_add-at-2 : goal.overflow_add-at-2
 overflow_add-at-2 c = search (
-      rules,
-      initial-inside _ _ c.tail_at-initial.ensures c.if-initial-lt33920.false
-          c.if-initial-gt33938.false,
-    )
+  rules,
+  initial-inside _ _ c.tail_at-initial.ensures c.if-initial-lt33920.false
+      c.if-initial-gt33938.false,
+)
 
 pub returns-then-last-eq0 : goal.returns-then-last-eq0
-returns-then-last-eq0 c = record { value = (λ n. spelled-two _ _ c.tail_at-initial.ensures
+returns-then-last-eq0 c = record {
+  value = (λ n. spelled-two _ _ c.tail_at-initial.ensures
       c.if-initial-lt33920.false c.if-initial-gt33938.false
       c.tail_at-peak.ensures c.if-peak-lt34209.false c.if-peak-gt34229.false
-      c.final_at-last.ensures c.if-last-eq0.true); triple = (λ n. record { least = omega arith; most = omega arith }) }
+      c.final_at-last.ensures c.if-last-eq0.true);
+  triple = (λ n. record { least = omega arith; most = omega arith });
+}
 
 pub overflow_add-result : goal.overflow_add-result
 overflow_add-result c = omega (
-      arith,
-      last-small _ _ c.tail_at-initial.ensures
-          c.if-initial-lt33920.false c.if-initial-gt33938.false
-          c.tail_at-peak.ensures c.if-peak-lt34209.false c.if-peak-gt34229.false
-          c.final_at-last.ensures,
-    )
-
-pub returns : goal.returns
-returns c = record { value = (λ n. spelled-three _ _ c.tail_at-initial.ensures
+  arith,
+  last-small _ _ c.tail_at-initial.ensures
       c.if-initial-lt33920.false c.if-initial-gt33938.false
       c.tail_at-peak.ensures c.if-peak-lt34209.false c.if-peak-gt34229.false
-      c.final_at-last.ensures c.if-last-eq0.false); triple = (λ n. record {
+      c.final_at-last.ensures,
+)
+
+pub returns : goal.returns
+returns c = record {
+  value = (λ n. spelled-three _ _ c.tail_at-initial.ensures
+      c.if-initial-lt33920.false c.if-initial-gt33938.false
+      c.tail_at-peak.ensures c.if-peak-lt34209.false c.if-peak-gt34229.false
+      c.final_at-last.ensures c.if-last-eq0.false);
+  triple = (λ n. record {
     least = omega arith;
     most = omega (
       arith,
@@ -55,4 +60,5 @@ returns c = record { value = (λ n. spelled-three _ _ c.tail_at-initial.ensures
           c.if-initial-gt33938.false c.tail_at-peak.ensures
           c.if-peak-lt34209.false c.if-peak-gt34229.false c.final_at-last.ensures,
     );
-  }) }
+  });
+}

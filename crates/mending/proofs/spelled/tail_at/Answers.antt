@@ -3,7 +3,6 @@
 use Rattle.mending.proofs.Spelling.{tail-short, tail-other, tail-three}
 use native.Mathlib.Omega.{arith}
 use Prim.Native.Nat.{◌+◌}
-use borrow.Author.Rules.{rules}
 use Rattle.mending.proofs.spelled.tail_at.Goals as goal
 
 pub returns-then-text-lt3 : goal.returns-then-text-lt3
@@ -26,10 +25,10 @@ overflow_cast-result-2 c = omega (arith, c.shared_slice_known-2-1.given (c.args.
 
 pub overflow_add-result-3 : goal.overflow_add-result-3
 overflow_add-result-3 c = omega (
-      arith,
-      c.shared_slice_known-2-1.given (c.args.at + 1),
-      c.shared_slice_known-2-1.given (c.args.at + 2),
-    )
+  arith,
+  c.shared_slice_known-2-1.given (c.args.at + 1),
+  c.shared_slice_known-2-1.given (c.args.at + 2),
+)
 
 pub returns : goal.returns
 returns c = tail-three _ _ (omega (arith, c.if-text-at.false)) c.if-text-at-2.false

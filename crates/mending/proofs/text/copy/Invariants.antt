@@ -1,9 +1,7 @@
 -- `mending::text::copy` meets its contract: the bytes read so far are those written, one after the
 -- other.
-use native.Mathlib.Omega.{arith}
 use Prim.Native.Nat.{◌≤◌, ◌-◌}
-use Rattle.mending.proofs.Turns.{Copying, copying-none, copying-length, copying-room, copying-more, copying-all}
-use borrow.Author.Rules.{rules}
+use Rattle.mending.proofs.Turns.{Copying}
 use Rattle.mending.proofs.text.copy.Given as goal
 
 abbrev pub invariant-loop-read : goal.invariant-loop-read

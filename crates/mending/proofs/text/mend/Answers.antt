@@ -3,7 +3,6 @@
 use Rattle.answers.proofs.Verdicts.{checks-passed}
 use Rattle.answers.proofs.Checks.{units-short, lacking-room}
 use Rattle.encodings.proofs.Reading.{reads-refused, reads-lacking, reads-done}
-use borrow.Author.Rules.{rules}
 use Rattle.mending.proofs.text.mend.Goals as goal
 
 pub mend_lacking-needed-requires : goal.mend_lacking-needed-requires

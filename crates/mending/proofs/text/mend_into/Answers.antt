@@ -1,9 +1,6 @@
 use Rattle.laws.proofs.Filling.{filling-length}
-use lib.ListN.{length}
 use native.Mathlib.Omega.{arith}
-use Prim.Native.Nat.{◌-◌}
-use Rattle.utf8.specs.Utf8.{form8}
-use Rattle.mending.proofs.Turns.{Writing, writing-none, writing-ready, writing_more, writing-all}
+use Rattle.mending.proofs.Turns.{writing-none, writing-ready, writing_more, writing-all}
 use Rattle.mending.proofs.text.mend_into.Goals as goal
 
 pub loop-s-init : goal.loop-s-init

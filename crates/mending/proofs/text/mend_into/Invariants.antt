@@ -1,11 +1,9 @@
 -- `mending::text::mend_into` meets its contract: the loop's invariant: what is written and what is
 -- left to be read make up the mended text.
-use Rattle.laws.proofs.Filling.{filling-length}
 use lib.ListN.{length}
-use native.Mathlib.Omega.{arith}
 use Prim.Native.Nat.{◌-◌}
 use Rattle.utf8.specs.Utf8.{form8}
-use Rattle.mending.proofs.Turns.{Writing, writing-none, writing-ready, writing_more, writing-all}
+use Rattle.mending.proofs.Turns.{Writing}
 use Rattle.mending.proofs.text.mend_into.Given as goal
 
 abbrev pub invariant-loop-s : goal.invariant-loop-s

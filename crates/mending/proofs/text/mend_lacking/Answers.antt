@@ -3,7 +3,6 @@
 use Rattle.answers.proofs.Checks.{lacking-none, lacking-counted}
 use native.Mathlib.Omega.{arith}
 use Rattle.mending.proofs.Bound.{mended-most}
-use borrow.Author.Rules.{rules}
 use Rattle.mending.proofs.text.mend_lacking.Goals as goal
 
 pub returns-then-text-room : goal.returns-then-text-room

@@ -2,7 +2,6 @@
 -- else what passes is copied.
 use native.Mathlib.Omega.{arith}
 use Rattle.mending.proofs.Turns.{passes-room, passes-moved}
-use borrow.Author.Rules.{rules}
 use Rattle.mending.proofs.text.pass.Goals as goal
 
 pub passing-end-requires : goal.passing-end-requires

@@ -1,7 +1,6 @@
 -- `mending::text::place` meets its contract: the character has room, so all its bytes are written.
 use native.Mathlib.Omega.{arith}
 use Rattle.mending.proofs.Turns.{fits-placed}
-use borrow.Author.Rules.{rules}
 use Rattle.mending.proofs.text.place.Goals as goal
 
 pub overflow_add-result : goal.overflow_add-result

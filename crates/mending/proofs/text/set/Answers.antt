@@ -5,7 +5,6 @@ use Rattle.laws.proofs.Filling.{wrote-three, room-all}
 use lib.ListN.{length-set}
 use native.Mathlib.Omega.{arith}
 use Rattle.mending.proofs.Turns.{wrote-placed}
-use borrow.Author.Rules.{rules}
 use Rattle.mending.proofs.text.set.Goals as goal
 
 pub bounds-out-at : goal.bounds-out-at

@@ -1,7 +1,6 @@
 -- `mending::unchanged::ascii` meets its contract: nothing, or what passes byte by byte after what
 -- passes eight bytes at once.
 use Rattle.mending.proofs.Turns.{passes_none, passes_on}
-use borrow.Author.Rules.{rules}
 use Rattle.mending.proofs.unchanged.ascii.Goals as goal
 
 pub returns-then-text-from : goal.returns-then-text-from

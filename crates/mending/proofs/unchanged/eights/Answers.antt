@@ -1,8 +1,4 @@
 use native.Mathlib.Omega.{arith}
-use Prim.Native.Nat.{◌-◌}
-use lib.ListN.{length}
-use borrow.Author.Tests.{not-false}
-use Rattle.mending.specs.Inner.{Passes}
 use Rattle.mending.proofs.Passes.{low-eight}
 use Rattle.mending.proofs.Turns.{passes_none, passes_on}
 use borrow.Author.Rules.{rules}

@@ -1,13 +1,8 @@
 -- `mending::unchanged::eights` meets its contract. The loop's invariant: what lies between the
 -- start and the index passes.
-use native.Mathlib.Omega.{arith}
 use Prim.Native.Nat.{◌-◌}
 use lib.ListN.{length}
-use borrow.Author.Tests.{not-false}
 use Rattle.mending.specs.Inner.{Passes}
-use Rattle.mending.proofs.Passes.{low-eight}
-use Rattle.mending.proofs.Turns.{passes_none, passes_on}
-use borrow.Author.Rules.{rules}
 use Rattle.mending.proofs.unchanged.eights.Given as goal
 
 abbrev pub invariant-loop-at : goal.invariant-loop-at

@@ -4,7 +4,6 @@ use Rattle.mending.proofs.Passes.{lead-number}
 use native.Mathlib.Omega.{arith}
 use mathlib.Core.Bool.{false≢true}
 use mathlib.Core.Path.{sym, ◌∙◌}
-use borrow.Author.Rules.{rules}
 use Rattle.mending.proofs.unchanged.is_lead.Goals as goal
 
 pub returns-then-both-lt60032 : goal.returns-then-both-lt60032

@@ -1,10 +1,8 @@
 -- `mending::unchanged::last_three` meets its contract: no three bytes are left, or they are no such
 -- character, or nothing stands after them.
 use Rattle.mending.proofs.Passes.{three-last}
-use borrow.Author.Tests.{not-false}
 use native.Mathlib.Omega.{arith}
 use Rattle.mending.proofs.Turns.{passes_none}
-use borrow.Author.Rules.{rules}
 use Rattle.mending.proofs.unchanged.last_three.Goals as goal
 
 pub returns-then-text-at-ne3 : goal.returns-then-text-at-ne3

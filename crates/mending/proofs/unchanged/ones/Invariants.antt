@@ -3,9 +3,6 @@
 use Prim.Native.Nat.{◌-◌}
 use lib.ListN.{length}
 use Rattle.mending.specs.Inner.{Passes}
-use Rattle.mending.proofs.Passes.{low-passes}
-use Rattle.mending.proofs.Turns.{passes_none, passes_on}
-use borrow.Author.Rules.{rules}
 use Rattle.mending.proofs.unchanged.ones.Given as goal
 
 abbrev pub invariant-loop-at : goal.invariant-loop-at

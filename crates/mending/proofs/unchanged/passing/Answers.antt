@@ -1,9 +1,5 @@
-use Rattle.mending.specs.Inner.{Passes}
-use lib.ListN.{length}
-use Prim.Native.Nat.{◌-◌}
 use native.Mathlib.Omega.{arith}
 use Rattle.mending.proofs.Turns.{passes_none, passes_on}
-use borrow.Author.Rules.{rules}
 use Rattle.mending.proofs.unchanged.passing.Goals as goal
 
 pub loop-at-init : goal.loop-at-init
@@ -17,11 +13,11 @@ returns-then-byte_at-ge128 c = passes_on c.loop-at.invariant c.run-end.ensures
 
 pub loop-at-smaller : goal.loop-at-smaller
 loop-at-smaller c = omega (
-      arith,
-      c.run-end.ensures.goes.on,
-      c.if-end-at.false,
-      c.loop-at-test.true,
-    )
+  arith,
+  c.run-end.ensures.goes.on,
+  c.if-end-at.false,
+  c.loop-at-test.true,
+)
 
 pub loop-at-preserved : goal.loop-at-preserved
 loop-at-preserved c = passes_on c.loop-at.invariant c.run-end.ensures

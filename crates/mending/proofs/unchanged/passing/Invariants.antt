@@ -3,9 +3,6 @@
 use Rattle.mending.specs.Inner.{Passes}
 use lib.ListN.{length}
 use Prim.Native.Nat.{◌-◌}
-use native.Mathlib.Omega.{arith}
-use Rattle.mending.proofs.Turns.{passes_none, passes_on}
-use borrow.Author.Rules.{rules}
 use Rattle.mending.proofs.unchanged.passing.Given as goal
 
 abbrev pub invariant-loop-at : goal.invariant-loop-at

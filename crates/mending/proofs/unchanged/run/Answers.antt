@@ -1,6 +1,5 @@
 -- `mending::unchanged::run` meets its contract: what passes after what passes, passes with it.
 use Rattle.mending.proofs.Turns.{passes_none, passes_on}
-use borrow.Author.Rules.{rules}
 use Rattle.mending.proofs.unchanged.run.Goals as goal
 
 pub returns-then-text-from : goal.returns-then-text-from

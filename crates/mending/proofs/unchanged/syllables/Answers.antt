@@ -1,7 +1,6 @@
 -- `mending::unchanged::syllables` meets its contract: the text has ended, or the last three bytes
 -- pass after what passes before them.
 use Rattle.mending.proofs.Turns.{passes_none, passes_on}
-use borrow.Author.Rules.{rules}
 use Rattle.mending.proofs.unchanged.syllables.Goals as goal
 
 pub returns-then-text-from : goal.returns-then-text-from

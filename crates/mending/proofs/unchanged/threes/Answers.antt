@@ -1,7 +1,4 @@
 use Rattle.mending.proofs.Passes.{lead-three, three-passes}
-use Rattle.mending.specs.Inner.{Passes}
-use lib.ListN.{length}
-use Prim.Native.Nat.{◌-◌}
 use native.Mathlib.Omega.{arith}
 use mathlib.Core.Path.{refl}
 use Rattle.encodings.proofs.Taking.{test-true}

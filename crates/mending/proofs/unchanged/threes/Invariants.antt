@@ -1,15 +1,8 @@
 -- `mending::unchanged::threes` meets its contract. The loop's invariant: what lies between the
 -- start and the index passes.
-use Rattle.mending.proofs.Passes.{lead-three, three-passes}
 use Rattle.mending.specs.Inner.{Passes}
-use borrow.Author.Tests.{not-false}
 use lib.ListN.{length}
 use Prim.Native.Nat.{◌-◌}
-use native.Mathlib.Omega.{arith}
-use mathlib.Core.Path.{refl}
-use Rattle.encodings.proofs.Taking.{test-true}
-use Rattle.mending.proofs.Turns.{passes_none, passes_on}
-use borrow.Author.Rules.{rules}
 use Rattle.mending.proofs.unchanged.threes.Given as goal
 
 abbrev pub invariant-loop-at : goal.invariant-loop-at

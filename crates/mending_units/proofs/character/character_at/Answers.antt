@@ -3,7 +3,6 @@
 use Rattle.encodings.proofs.Taking.{test-true, test-false}
 use Rattle.utf16.specs.Utf16.{form16}
 use Rattle.mending.proofs.Characters.{one_inside, character-of-one, two-inside, character-of-two, character-of-three}
-use borrow.Author.Rules.{rules}
 use Rattle.mending_units.proofs.character.character_at.Goals as goal
 
 pub returns-then-not-goes_on : goal.returns-then-not-goes_on

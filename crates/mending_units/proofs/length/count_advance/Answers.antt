@@ -3,7 +3,6 @@
 use Rattle.utf16.proofs.Forms.{encodes16}
 use Rattle.mending.proofs.Turns.{count_fits, count-character}
 use Rattle.mending.proofs.Characters.{character-next}
-use borrow.Author.Rules.{rules}
 use Rattle.mending_units.proofs.length.count_advance.Goals as goal
 
 pub count_pass-requires : goal.count_pass-requires

@@ -4,7 +4,6 @@ use native.Mathlib.Omega.{arith}
 use Rattle.utf16.proofs.Forms.{encodes16}
 use Rattle.mending.proofs.Turns.{count_fits, count-character, passes_count, count-passes}
 use Rattle.mending.proofs.Characters.{character-next}
-use borrow.Author.Rules.{rules}
 use Rattle.mending_units.proofs.length.count_pass.Goals as goal
 
 pub run-end-requires : goal.run-end-requires
@@ -23,9 +22,9 @@ overflow_sub-result c = c.run-end.ensures.goes.on
 
 pub overflow_add-result : goal.overflow_add-result
 overflow_add-result c = omega (
-      arith,
-      passes_count c.requires c.run-end.ensures,
-    )
+  arith,
+  passes_count c.requires c.run-end.ensures,
+)
 
 pub returns : goal.returns
 returns c = count-passes c.run-end.ensures c.if-end-read.false

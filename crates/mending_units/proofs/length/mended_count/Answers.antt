@@ -1,8 +1,5 @@
-use lib.ListN.{length}
 use native.Mathlib.Omega.{arith}
-use Prim.Native.Nat.{◌-◌}
-use Rattle.utf16.specs.Utf16.{form16}
-use Rattle.mending.proofs.Turns.{Tallying, tallying-none, tallying-ready, tallying-more, tallying-all}
+use Rattle.mending.proofs.Turns.{tallying-none, tallying-ready, tallying-more, tallying-all}
 use Rattle.mending_units.proofs.Bound.{mended-most}
 use Rattle.mending_units.proofs.length.mended_count.Goals as goal
 

@@ -1,11 +1,9 @@
 -- `mending_units::length::mended_count` meets its contract: the loop's invariant is that what is
 -- counted and what is left make up the mended text.
 use lib.ListN.{length}
-use native.Mathlib.Omega.{arith}
 use Prim.Native.Nat.{◌-◌}
 use Rattle.utf16.specs.Utf16.{form16}
-use Rattle.mending.proofs.Turns.{Tallying, tallying-none, tallying-ready, tallying-more, tallying-all}
-use Rattle.mending_units.proofs.Bound.{mended-most}
+use Rattle.mending.proofs.Turns.{Tallying}
 use Rattle.mending_units.proofs.length.mended_count.Given as goal
 
 abbrev pub invariant-loop-s : goal.invariant-loop-s

@@ -6,7 +6,6 @@ use native.Mathlib.Omega.{arith}
 use Rattle.laws.specs.Ranges.{within}
 use Rattle.mending.proofs.FastPaths.{spelled_none, none-short}
 use Rattle.mending_units.proofs.Found.{letter-character}
-use borrow.Author.Rules.{rules}
 use Rattle.mending_units.proofs.lone.letter_at.Goals as goal
 
 pub overflow_cast-unit : goal.overflow_cast-unit

@@ -5,7 +5,6 @@ use native.Mathlib.Omega.{arith}
 use Rattle.utf16.specs.Utf16.{low}
 use Rattle.mending.proofs.FastPaths.{spelled_none, none-short}
 use Rattle.mending_units.proofs.Found.{low-character, high-character}
-use borrow.Author.Rules.{rules}
 use Rattle.mending_units.proofs.lone.unpaired_at.Goals as goal
 
 pub overflow_cast-unit : goal.overflow_cast-unit

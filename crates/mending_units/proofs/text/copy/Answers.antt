@@ -1,6 +1,5 @@
 use native.Mathlib.Omega.{arith}
-use Prim.Native.Nat.{◌≤◌, ◌-◌}
-use Rattle.mending.proofs.Turns.{Copying, copying-none, copying-length, copying-room, copying-more, copying-all}
+use Rattle.mending.proofs.Turns.{copying-none, copying-length, copying-room, copying-more, copying-all}
 use borrow.Author.Rules.{rules}
 use Rattle.mending_units.proofs.text.copy.Goals as goal
 

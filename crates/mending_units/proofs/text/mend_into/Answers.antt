@@ -1,9 +1,6 @@
 use Rattle.laws.proofs.Filling.{filling-length}
-use lib.ListN.{length}
 use native.Mathlib.Omega.{arith}
-use Prim.Native.Nat.{◌-◌}
-use Rattle.utf16.specs.Utf16.{form16}
-use Rattle.mending.proofs.Turns.{Writing, writing-none, writing-ready, writing_more, writing-all}
+use Rattle.mending.proofs.Turns.{writing-none, writing-ready, writing_more, writing-all}
 use Rattle.mending_units.proofs.text.mend_into.Goals as goal
 
 pub loop-s-init : goal.loop-s-init

@@ -1,11 +1,9 @@
 -- `mending_units::text::mend_into` meets its contract: the loop's invariant: what is written and
 -- what is left to be read make up the mended text.
-use Rattle.laws.proofs.Filling.{filling-length}
 use lib.ListN.{length}
-use native.Mathlib.Omega.{arith}
 use Prim.Native.Nat.{◌-◌}
 use Rattle.utf16.specs.Utf16.{form16}
-use Rattle.mending.proofs.Turns.{Writing, writing-none, writing-ready, writing_more, writing-all}
+use Rattle.mending.proofs.Turns.{Writing}
 use Rattle.mending_units.proofs.text.mend_into.Given as goal
 
 abbrev pub invariant-loop-s : goal.invariant-loop-s

@@ -2,7 +2,6 @@
 -- `make`, else what passes is copied.
 use native.Mathlib.Omega.{arith}
 use Rattle.mending.proofs.Turns.{passes-room, passes-moved}
-use borrow.Author.Rules.{rules}
 use Rattle.mending_units.proofs.text.pass.Goals as goal
 
 pub run-end-requires : goal.run-end-requires

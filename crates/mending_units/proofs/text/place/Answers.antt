@@ -2,7 +2,6 @@
 -- written.
 use native.Mathlib.Omega.{arith}
 use Rattle.mending.proofs.Turns.{fits-placed}
-use borrow.Author.Rules.{rules}
 use Rattle.mending_units.proofs.text.place.Goals as goal
 
 pub overflow_add-result : goal.overflow_add-result

@@ -2,7 +2,6 @@
 use Rattle.laws.proofs.Filling.{wrote_one, room-one}
 use Rattle.utf16.proofs.Writing.{units-one}
 use Rattle.mending.proofs.Turns.{wrote-placed}
-use borrow.Author.Rules.{rules}
 use Rattle.mending_units.proofs.text.set.Goals as goal
 
 pub bounds-out-at : goal.bounds-out-at

@@ -1,10 +1,6 @@
 use native.Mathlib.Omega.{arith}
-use Prim.Native.Nat.{◌-◌}
-use lib.ListN.{length}
-use borrow.Author.Tests.{not-false}
 use borrow.Author.Rules.{rules}
 use Rattle.mending.proofs.Turns.{passes_none, passes_on}
-use Rattle.mending_units.specs.Inner.{PassesUnits}
 use Rattle.mending_units.proofs.Passes.{plain-four}
 use Rattle.mending_units.proofs.unchanged.fours.Goals as goal
 

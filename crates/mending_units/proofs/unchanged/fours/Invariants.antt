@@ -1,13 +1,8 @@
 -- `mending_units::unchanged::fours` meets its contract. The loop's invariant: what lies between the
 -- start and the index passes.
-use native.Mathlib.Omega.{arith}
 use Prim.Native.Nat.{◌-◌}
 use lib.ListN.{length}
-use borrow.Author.Tests.{not-false}
-use borrow.Author.Rules.{rules}
-use Rattle.mending.proofs.Turns.{passes_none, passes_on}
 use Rattle.mending_units.specs.Inner.{PassesUnits}
-use Rattle.mending_units.proofs.Passes.{plain-four}
 use Rattle.mending_units.proofs.unchanged.fours.Given as goal
 
 abbrev pub invariant-loop-at : goal.invariant-loop-at

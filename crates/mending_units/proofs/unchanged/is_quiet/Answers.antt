@@ -1,7 +1,6 @@
 -- `mending_units::unchanged::is_quiet` meets its contract: a letter, or what the test of surrogates
 -- says.
 use mathlib.Core.Path.{sym, ◌∙◌}
-use borrow.Author.Rules.{rules}
 use Rattle.mending_units.proofs.unchanged.is_quiet.Goals as goal
 
 pub returns-then-is_within : goal.returns-then-is_within

@@ -5,7 +5,6 @@ use Prim.Native.Nat.{◌+◌}
 use Rattle.encodings.proofs.Taking.{test-true}
 use Rattle.mending.proofs.Turns.{passes_none}
 use Rattle.mending_units.proofs.Passes.{pair-passes}
-use borrow.Author.Rules.{rules}
 use Rattle.mending_units.proofs.unchanged.pair.Goals as goal
 
 pub returns-then-text-at-lt2 : goal.returns-then-text-at-lt2

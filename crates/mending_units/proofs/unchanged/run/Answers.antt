@@ -1,7 +1,6 @@
 -- `mending_units::unchanged::run` meets its contract: what passes after what passes, passes with
 -- it.
 use Rattle.mending.proofs.Turns.{passes_on}
-use borrow.Author.Rules.{rules}
 use Rattle.mending_units.proofs.unchanged.run.Goals as goal
 
 pub singles-requires : goal.singles-requires

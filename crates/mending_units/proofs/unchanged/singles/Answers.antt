@@ -1,9 +1,6 @@
 use native.Mathlib.Omega.{arith}
-use Prim.Native.Nat.{◌-◌}
-use lib.ListN.{length}
-use borrow.Author.Rules.{rules}
 use Rattle.encodings.proofs.Taking.{test-true}
-use Rattle.mending_units.specs.Inner.{Trails, nothing}
+use Rattle.mending_units.specs.Inner.{nothing}
 use Rattle.mending_units.proofs.Passes.{trails-more}
 use Rattle.mending_units.proofs.unchanged.singles.Goals as goal
 

@@ -1,7 +1,5 @@
-use Prim.Native.Nat.{◌-◌}
 use Rattle.names.specs.Names.{prefix as bytes}
-use Rattle.names.proofs.Search.{PrefixTo, prefix-short, prefix-none, prefix-more, prefix-not, prefix-all}
-use borrow.Author.Rules.{rules}
+use Rattle.names.proofs.Search.{prefix-short, prefix-none, prefix-more, prefix-not, prefix-all}
 use Rattle.names.proofs.read.begins_so.Goals as goal
 
 pub returns-then-name-lt16 : goal.returns-then-name-lt16

@@ -1,9 +1,7 @@
 -- `names::read::begins_so` meets its contract. The loop's invariant: the letters before `at` are
 -- the prefix's.
 use Prim.Native.Nat.{◌-◌}
-use Rattle.names.specs.Names.{prefix as bytes}
-use Rattle.names.proofs.Search.{PrefixTo, prefix-short, prefix-none, prefix-more, prefix-not, prefix-all}
-use borrow.Author.Rules.{rules}
+use Rattle.names.proofs.Search.{PrefixTo}
 use Rattle.names.proofs.read.begins_so.Given as goal
 
 abbrev pub invariant-loop-at : goal.invariant-loop-at

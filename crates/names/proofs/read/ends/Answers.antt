@@ -1,7 +1,6 @@
 -- `names::read::ends` meets its contract: of two strings of one length, the one begins with the
 -- other exactly when they are the same.
 use Rattle.names.proofs.Search.{ends-other, ends_as}
-use borrow.Author.Rules.{rules}
 use Rattle.names.proofs.read.ends.Goals as goal
 
 pub returns-then-rest-part : goal.returns-then-rest-part

@@ -1,8 +1,6 @@
 -- `names::read::fits` meets its contract: the string is not there, or it is and the letter after it
 -- decides.
-use borrow.Author.Tests.{not-true, not-false}
 use Rattle.names.proofs.Search.{fits_not, fits-as}
-use borrow.Author.Rules.{rules}
 use Rattle.names.proofs.read.fits.Goals as goal
 
 pub returns-then-not-goes_on : goal.returns-then-not-goes_on

@@ -1,7 +1,6 @@
 -- `names::read::goes_on` meets its contract: what is left is too short, or its letters are compared
 -- with the string's one after the other.
 use Rattle.names.proofs.Search.{goes-short, goes-0, goes-not-first, goes-1, goes-not-second, goes-2, goes-3}
-use borrow.Author.Rules.{rules}
 use Rattle.names.proofs.read.goes_on.Goals as goal
 
 pub returns-then-rest-part : goal.returns-then-rest-part

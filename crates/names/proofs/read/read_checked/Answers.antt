@@ -1,7 +1,6 @@
 -- `names::read::read_checked` meets its contract: three indices that are found make the syllable;
 -- if there are none, no syllable has the name.
 use Rattle.names.proofs.Found.{found_at, reads-found, reads_nothing}
-use borrow.Author.Rules.{rules}
 use Rattle.names.proofs.read.read_checked.Goals as goal
 
 pub search-found-requires : goal.search-found-requires

@@ -1,7 +1,6 @@
 -- `names::read::read_name` meets its contract: the check refuses, or the name has passed it.
 use Rattle.names.proofs.Found.{reads-checked}
 use Rattle.answers.proofs.Verdicts.{checks-passed}
-use borrow.Author.Rules.{rules}
 use Rattle.names.proofs.read.read_name.Goals as goal
 
 pub read_checked-requires : goal.read_checked-requires

@@ -1,8 +1,6 @@
 use native.Mathlib.Omega.{arith}
-use Rattle.names.proofs.Search.{Finals, finals-none, finals-more, finals-found, prefix-long, initial-long, peak-long, Initials, initials-none, initials-more, initials-all, Peaks, peaks-none, peaks-more}
+use Rattle.names.proofs.Search.{finals-none, finals-more, finals-found, prefix-long, initial-long, peak-long, initials-none, initials-more, initials-all, peaks-none, peaks-more}
 use Rattle.names.proofs.Rows.{row_inside, spelled}
-use Prim.Native.Nat.{◌-◌}
-use borrow.Author.Rules.{rules}
 use Rattle.names.proofs.read.search.Goals as goal
 
 pub search-init : goal.search-init

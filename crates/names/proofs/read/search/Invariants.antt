@@ -1,10 +1,7 @@
 -- `names::read::search` meets its contract. Each loop keeps that no row which it has passed gives
 -- the name, and that what stands before fits wherever it looks at a row.
-use native.Mathlib.Omega.{arith}
-use Rattle.names.proofs.Search.{Finals, finals-none, finals-more, finals-found, prefix-long, initial-long, peak-long, Initials, initials-none, initials-more, initials-all, Peaks, peaks-none, peaks-more}
-use Rattle.names.proofs.Rows.{row_inside, spelled}
+use Rattle.names.proofs.Search.{Finals, Initials, Peaks}
 use Prim.Native.Nat.{◌-◌}
-use borrow.Author.Rules.{rules}
 use Rattle.names.proofs.read.search.Given as goal
 
 abbrev pub invariant-loop-f : goal.invariant-loop-f

@@ -1,7 +1,6 @@
 -- `names::read::vowel_at` meets its contract: after the name's end there is no letter, and each of
 -- the seven letters is looked for.
 use Rattle.names.proofs.Search.{vowel-after, vowel-here, vowel-yes, vowel-no}
-use borrow.Author.Rules.{rules}
 use Rattle.names.proofs.read.vowel_at.Goals as goal
 
 pub returns-then-rest-at : goal.returns-then-rest-at

@@ -1,7 +1,6 @@
 -- `names::write::name` meets its contract: no syllable, or named by its three indices.
 use Rattle.names.proofs.Writing.{indices-inside, names-refused, names-by}
 use Rattle.letters.proofs.Steps.{syllable-yes, syllable-below, syllable-above}
-use borrow.Author.Rules.{rules}
 use Rattle.names.proofs.write.name.Goals as goal
 
 pub returns-then-code-lt44032 : goal.returns-then-code-lt44032

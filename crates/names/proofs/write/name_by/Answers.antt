@@ -2,7 +2,6 @@
 -- the name is written.
 use Rattle.answers.proofs.Checks.{lacking-room}
 use Rattle.names.proofs.Writing.{by-lacking, by-done}
-use borrow.Author.Rules.{rules}
 use Rattle.names.proofs.write.name_by.Goals as goal
 
 pub returns-then-needed-ne0 : goal.returns-then-needed-ne0

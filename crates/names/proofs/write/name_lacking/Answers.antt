@@ -5,7 +5,6 @@ use Rattle.answers.proofs.Checks.{lacking-none, lacking-counted}
 use Rattle.names.proofs.Rows.{spelled}
 use Rattle.names.proofs.Writing.{name-counted}
 use Rattle.names.proofs.Lengths.{name-most}
-use borrow.Author.Rules.{rules}
 use Rattle.names.proofs.write.name_lacking.Goals as goal
 
 pub returns-then-room-ge23 : goal.returns-then-room-ge23
@@ -16,18 +15,18 @@ overflow_add-initial c = omega (arith, (spelled _ c.requires.initial_rows c.requ
 
 pub overflow_add-initial-2 : goal.overflow_add-initial-2
 overflow_add-initial-2 c = omega (
-      arith,
-      (spelled _ c.requires.initial_rows c.requires.inside.0 c.string_at-initial.ensures).few,
-      (spelled _ c.requires.peak_rows c.requires.inside.1 c.string_at-peak.ensures).few,
-    )
+  arith,
+  (spelled _ c.requires.initial_rows c.requires.inside.0 c.string_at-initial.ensures).few,
+  (spelled _ c.requires.peak_rows c.requires.inside.1 c.string_at-peak.ensures).few,
+)
 
 pub overflow_add-initial-3 : goal.overflow_add-initial-3
 overflow_add-initial-3 c = omega (
-      arith,
-      (spelled _ c.requires.initial_rows c.requires.inside.0 c.string_at-initial.ensures).few,
-      (spelled _ c.requires.peak_rows c.requires.inside.1 c.string_at-peak.ensures).few,
-      (spelled _ c.requires.final_rows c.requires.inside.2 c.string_at-last.ensures).few,
-    )
+  arith,
+  (spelled _ c.requires.initial_rows c.requires.inside.0 c.string_at-initial.ensures).few,
+  (spelled _ c.requires.peak_rows c.requires.inside.1 c.string_at-peak.ensures).few,
+  (spelled _ c.requires.final_rows c.requires.inside.2 c.string_at-last.ensures).few,
+)
 
 pub returns : goal.returns
 returns c = let initial = spelled _ c.requires.initial_rows c.requires.inside.0 c.string_at-initial.ensures in

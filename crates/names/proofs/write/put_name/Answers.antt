@@ -2,7 +2,6 @@
 -- other. `begun`, `first` and `second` are the places after the prefix, the initial and the peak.
 use Rattle.names.proofs.Rows.{row_inside, spelled}
 use Rattle.names.proofs.Writing.{room-prefix, room-initial, room-peak, room-last, wrote-name}
-use borrow.Author.Rules.{rules}
 use Rattle.names.proofs.write.put_name.Goals as goal
 
 pub put_prefix-after_prefix-requires : goal.put_prefix-after_prefix-requires
@@ -21,8 +20,11 @@ string_at-last-requires c = row_inside _ c.requires.final_rows c.requires.inside
 pub put_part-requires : goal.put_part-requires
 put_part-requires c = let initial = spelled _ c.requires.initial_rows c.requires.inside.0 c.string_at-initial.ensures in
     let peak = spelled _ c.requires.peak_rows c.requires.inside.1 c.string_at-peak.ensures in
-    let last = spelled _ c.requires.final_rows c.requires.inside.2 c.string_at-last.ensures in record { length_bound = last.few; room = room-last _ _ _ c.requires.last_in_bounds c.put_prefix-after_prefix.ensures initial c.put_part-after_initial.ensures peak
-          c.put_part-after_peak.ensures last }
+    let last = spelled _ c.requires.final_rows c.requires.inside.2 c.string_at-last.ensures in record {
+      length_bound = last.few;
+      room = room-last _ _ _ c.requires.last_in_bounds c.put_prefix-after_prefix.ensures initial c.put_part-after_initial.ensures peak
+          c.put_part-after_peak.ensures last;
+    }
 
 pub returns : goal.returns
 returns c = let initial = spelled _ c.requires.initial_rows c.requires.inside.0 c.string_at-initial.ensures in

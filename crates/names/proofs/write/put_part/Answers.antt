@@ -3,7 +3,6 @@ use native.Mathlib.Omega.{arith}
 use lib.ListN.{length-set}
 use Rattle.laws.proofs.Filling.{wrote_none, wrote_one, wrote-pair, wrote-three}
 use Rattle.names.proofs.Writing.{string-none, string-one, string-two, string-three, string-fits}
-use borrow.Author.Rules.{rules}
 use Rattle.names.proofs.write.put_part.Goals as goal
 
 pub returns-then-part-eq0 : goal.returns-then-part-eq0

@@ -1,12 +1,8 @@
 use mathlib.Core.Path.{refl}
-use Prim.Native.Nat.{◌-◌, ◌≤◌}
 use native.Mathlib.Omega.{arith}
-use lib.ListN.{take}
 use Rattle.laws.proofs.Filling.{wrote_none, wrote-length}
-use Rattle.laws.specs.Writing.{Wrote}
 use Rattle.names.specs.Names.{prefix}
 use Rattle.names.proofs.Writing.{wrote-next, wrote-text}
-use borrow.Author.Rules.{rules}
 use Rattle.names.proofs.write.put_prefix.Goals as goal
 
 pub loop-at-init : goal.loop-at-init

@@ -1,13 +1,8 @@
 -- `names::write::put_prefix` meets its contract: of the prefix the first `at` bytes are written.
-use mathlib.Core.Path.{refl}
 use Prim.Native.Nat.{◌-◌, ◌≤◌}
-use native.Mathlib.Omega.{arith}
 use lib.ListN.{take}
-use Rattle.laws.proofs.Filling.{wrote_none, wrote-length}
 use Rattle.laws.specs.Writing.{Wrote}
 use Rattle.names.specs.Names.{prefix}
-use Rattle.names.proofs.Writing.{wrote-next, wrote-text}
-use borrow.Author.Rules.{rules}
 use Rattle.names.proofs.write.put_prefix.Given as goal
 
 abbrev pub invariant-loop-at : goal.invariant-loop-at

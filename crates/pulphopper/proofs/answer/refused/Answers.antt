@@ -1,6 +1,5 @@
 -- `pulphopper::answer::refused` meets its contract: the number and the place that the refusal
 -- tells.
-use borrow.Author.Rules.{rules}
 use Rattle.pulphopper.proofs.answer.refused.Goals as goal
 
 pub returns : goal.returns

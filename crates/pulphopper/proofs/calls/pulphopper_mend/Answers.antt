@@ -2,7 +2,6 @@
 -- numbers of an answer.
 use Rattle.utf8.proofs.Round.{encodes8}
 use Rattle.pulphopper.proofs.Replies.{mends-done, mends-few, mends-refused}
-use borrow.Author.Rules.{rules}
 use Rattle.pulphopper.proofs.calls.pulphopper_mend.Goals as goal
 
 pub counted-requires : goal.counted-requires

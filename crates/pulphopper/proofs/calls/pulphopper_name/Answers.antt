@@ -1,7 +1,6 @@
 -- `pulphopper::calls::pulphopper_name` meets its contract: what naming answers, in the three
 -- numbers of an answer.
 use Rattle.pulphopper.proofs.Replies.{names-done, names-refused}
-use borrow.Author.Rules.{rules}
 use Rattle.pulphopper.proofs.calls.pulphopper_name.Goals as goal
 
 pub returns-in-Done : goal.returns-in-Done

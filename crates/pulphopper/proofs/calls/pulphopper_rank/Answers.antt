@@ -1,7 +1,6 @@
 -- `pulphopper::calls::pulphopper_rank` meets its contract: what ranking answers, in the three
 -- numbers of an answer.
 use Rattle.pulphopper.proofs.Replies.{ranks-done, ranks-refused}
-use borrow.Author.Rules.{rules}
 use Rattle.pulphopper.proofs.calls.pulphopper_rank.Goals as goal
 
 pub returns-in-Stands : goal.returns-in-Stands

@@ -1,7 +1,6 @@
 -- `pulphopper::calls::pulphopper_read_name` meets its contract: what reading a name answers, in the
 -- three numbers of an answer.
 use Rattle.pulphopper.proofs.Replies.{reads-done, reads-refused}
-use borrow.Author.Rules.{rules}
 use Rattle.pulphopper.proofs.calls.pulphopper_read_name.Goals as goal
 
 pub returns-in-Syllable : goal.returns-in-Syllable

@@ -1,7 +1,6 @@
 -- `ranking::bytes::advance` meets its contract: after what is alike two characters begin, and the
 -- step goes on from there.
 use Rattle.ranking.proofs.Texts.{fits, follows-reached, advanced-on}
-use borrow.Author.Rules.{rules}
 use Rattle.ranking.proofs.bytes.advance.Goals as goal
 
 pub next_at-front-requires : goal.next_at-front-requires

@@ -1,9 +1,5 @@
-use Prim.Native.Nat.{◌+◌, ◌-◌}
 use native.Mathlib.Omega.{arith}
-use lib.ListN.{length}
-use Rattle.ranking.specs.Inner.{Alike}
 use Rattle.ranking.proofs.Texts.{alike-none, alike-more}
-use borrow.Author.Rules.{rules}
 use Rattle.ranking.proofs.bytes.alike.Goals as goal
 
 pub loop-count-init : goal.loop-count-init

@@ -1,11 +1,8 @@
 -- `ranking::bytes::alike` meets its contract: the loop's invariant: the bytes passed are alike. The
 -- measure is what is left of the first text.
 use Prim.Native.Nat.{◌+◌, ◌-◌}
-use native.Mathlib.Omega.{arith}
 use lib.ListN.{length}
 use Rattle.ranking.specs.Inner.{Alike}
-use Rattle.ranking.proofs.Texts.{alike-none, alike-more}
-use borrow.Author.Rules.{rules}
 use Rattle.ranking.proofs.bytes.alike.Given as goal
 
 abbrev pub invariant-loop-count : goal.invariant-loop-count

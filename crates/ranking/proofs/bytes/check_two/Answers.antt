@@ -1,6 +1,5 @@
 -- `ranking::bytes::check_two` meets its contract: 1 for the first text, then 1 for the second.
 use Rattle.ranking.proofs.Calls.{bytes-first, bytes-second}
-use borrow.Author.Rules.{rules}
 use Rattle.ranking.proofs.bytes.check_two.Goals as goal
 
 pub returns-in-Refused : goal.returns-in-Refused

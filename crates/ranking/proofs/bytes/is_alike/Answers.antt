@@ -2,7 +2,6 @@
 -- and plain.
 use mathlib.Core.Bool.{false≢true}
 use Rattle.ranking.proofs.Texts.{alike_at}
-use borrow.Author.Rules.{rules}
 use Rattle.ranking.proofs.bytes.is_alike.Goals as goal
 
 pub returns-then-first-at : goal.returns-then-first-at

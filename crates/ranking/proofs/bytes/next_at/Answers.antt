@@ -1,6 +1,5 @@
 -- `ranking::bytes::next_at` meets its contract: the joined character that begins at the index.
 use Rattle.ranking.proofs.Texts.{byte-begins}
-use borrow.Author.Rules.{rules}
 use Rattle.ranking.proofs.bytes.next_at.Goals as goal
 
 pub returns : goal.returns

@@ -1,7 +1,6 @@
 -- `ranking::bytes::rank_bytes` meets its contract: the check refuses, or the two texts are ranked.
 use Rattle.answers.proofs.Verdicts.{checks-passed}
 use Rattle.ranking.proofs.Calls.{two-bytes-short, ranks-bytes-refused, ranks-bytes-stands}
-use borrow.Author.Rules.{rules}
 use Rattle.ranking.proofs.bytes.rank_bytes.Goals as goal
 
 pub rank_checked-requires : goal.rank_checked-requires

@@ -1,7 +1,5 @@
 use native.Mathlib.Omega.{arith}
-use Rattle.ranking.specs.Inner.{mended_from, Follows}
-use Rattle.ranking.proofs.Texts.{measure_of, start, follows-none, follows_on, follows-reached, less, rank-bytes-found}
-use borrow.Author.Rules.{rules}
+use Rattle.ranking.proofs.Texts.{follows-none, follows_on, follows-reached, less, rank-bytes-found}
 use Rattle.ranking.proofs.bytes.rank_checked.Goals as goal
 
 pub loop-s-init : goal.loop-s-init

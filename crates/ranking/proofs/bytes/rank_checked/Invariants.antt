@@ -1,9 +1,7 @@
 -- `ranking::bytes::rank_checked` meets its contract: the loop's invariant: what is left ranks as
 -- the two texts do. The measure is what is left of them, and 1 while the answer is to be found.
-use native.Mathlib.Omega.{arith}
 use Rattle.ranking.specs.Inner.{mended_from, Follows}
-use Rattle.ranking.proofs.Texts.{measure_of, start, follows-none, follows_on, follows-reached, less, rank-bytes-found}
-use borrow.Author.Rules.{rules}
+use Rattle.ranking.proofs.Texts.{measure_of, start}
 use Rattle.ranking.proofs.bytes.rank_checked.Given as goal
 
 abbrev pub invariant-loop-s : goal.invariant-loop-s

@@ -2,7 +2,6 @@
 -- item begins.
 use native.Mathlib.Omega.{arith}
 use Rattle.ranking.proofs.Texts.{follows-none, alike-follows}
-use borrow.Author.Rules.{rules}
 use Rattle.ranking.proofs.bytes.skip.Goals as goal
 
 pub returns-then-not-is_apart : goal.returns-then-not-is_apart

@@ -2,7 +2,6 @@
 -- texts in which they stand.
 use Rattle.ranking.proofs.Texts.{first-adds, second-adds, advances}
 use native.Mathlib.Omega.{arith}
-use borrow.Author.Rules.{rules}
 use Rattle.ranking.proofs.compare.advance.Goals as goal
 
 pub overflow_add-result : goal.overflow_add-result

@@ -3,7 +3,6 @@
 use mathlib.Core.Path.{refl}
 use Rattle.ranking.proofs.Steps.{moves, apart-ends, apart-digit-end, apart-digit-other}
 use Rattle.ranking.proofs.Fronts.{end-first, other_last}
-use borrow.Author.Rules.{rules}
 use Rattle.ranking.proofs.compare.apart.Goals as goal
 
 pub returns-in-End-second : goal.returns-in-End-second

@@ -1,7 +1,6 @@
 -- `ranking::compare::digits` meets its contract: zeros in front pass; two other digits begin two
 -- numbers of one length.
 use Rattle.ranking.proofs.Steps.{digits-first-zero, digits-second-zero, digits-begin}
-use borrow.Author.Rules.{rules}
 use Rattle.ranking.proofs.compare.digits.Goals as goal
 
 pub returns-then-first-eq0 : goal.returns-then-first-eq0

@@ -1,7 +1,6 @@
 -- `ranking::compare::ended` meets its contract: two numbers of one length have ended: by what they
 -- decided, or by what follows.
 use Rattle.ranking.proofs.Steps.{ended-before, ended-equal, ended-after}
-use borrow.Author.Rules.{rules}
 use Rattle.ranking.proofs.compare.ended.Goals as goal
 
 pub returns-in-Before : goal.returns-in-Before

@@ -1,7 +1,6 @@
 -- `ranking::compare::is_zero` meets its contract: each return knows the front.
 use mathlib.Core.Path.{sym, ap}
 use Rattle.ranking.specs.Inner.{is_zero_as}
-use borrow.Author.Rules.{rules}
 use Rattle.ranking.proofs.compare.is_zero.Goals as goal
 
 pub returns-in-Digit : goal.returns-in-Digit

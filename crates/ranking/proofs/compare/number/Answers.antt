@@ -3,7 +3,6 @@
 use mathlib.Core.Path.{refl}
 use Rattle.ranking.proofs.Steps.{moves, number_more, number-longer, number-shorter}
 use Rattle.ranking.proofs.Fronts.{closed-tags}
-use borrow.Author.Rules.{rules}
 use Rattle.ranking.proofs.compare.number.Goals as goal
 
 pub ended-requires : goal.ended-requires

@@ -1,7 +1,6 @@
 -- `ranking::compare::others` meets its contract: of two code points that are no digits the lesser
 -- stands first, and two equal ones pass.
 use Rattle.ranking.proofs.Steps.{others-before, others-equal, others-after}
-use borrow.Author.Rules.{rules}
 use Rattle.ranking.proofs.compare.others.Goals as goal
 
 pub returns-in-Before : goal.returns-in-Before

@@ -4,7 +4,6 @@ use mathlib.Core.Path.{sym, ◌∙◌, ap}
 use mathlib.Core.List.{[]}
 use Rattle.ranking.specs.Inner.{rank_from}
 use Rattle.ranking.proofs.Steps.{settled-apart, settled-zeros, settled-number}
-use borrow.Author.Rules.{rules}
 use Rattle.ranking.proofs.compare.settled.Goals as goal
 
 pub returns-in-Apart : goal.returns-in-Apart

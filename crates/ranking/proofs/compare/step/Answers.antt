@@ -1,7 +1,6 @@
 -- `ranking::compare::step` meets its contract: each return knows the state.
 use mathlib.Core.Path.{refl}
 use Rattle.ranking.proofs.Steps.{moves_from, done-stays}
-use borrow.Author.Rules.{rules}
 use Rattle.ranking.proofs.compare.step.Goals as goal
 
 pub returns-in-Apart : goal.returns-in-Apart

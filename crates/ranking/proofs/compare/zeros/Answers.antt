@@ -2,7 +2,6 @@
 -- numbers.
 use mathlib.Core.Path.{refl, sym, ◌∙◌}
 use Rattle.ranking.proofs.Steps.{steps-first-zero, steps-second-zero, steps-stout}
-use borrow.Author.Rules.{rules}
 use Rattle.ranking.proofs.compare.zeros.Goals as goal
 
 pub returns-then-is_zero : goal.returns-then-is_zero

@@ -1,7 +1,6 @@
 -- `ranking::text::advance` meets its contract: two characters begin at the two indices, and the
 -- step goes on from there.
 use Rattle.ranking.proofs.Texts.{fits}
-use borrow.Author.Rules.{rules}
 use Rattle.ranking.proofs.text.advance.Goals as goal
 
 pub next_at-front-requires : goal.next_at-front-requires

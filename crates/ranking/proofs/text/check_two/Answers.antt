@@ -2,7 +2,6 @@
 -- likewise.
 use mathlib.Core.Path.{sym}
 use Rattle.ranking.proofs.Calls.{two-first-over, two-second-over, two-first-bad, two-second-bad, two-passed}
-use borrow.Author.Rules.{rules}
 use Rattle.ranking.proofs.text.check_two.Goals as goal
 
 pub returns-then-first-gt-LIMIT : goal.returns-then-first-gt-LIMIT

@@ -1,7 +1,6 @@
 -- `ranking::text::code` meets its contract: after the end a text reads as 0.
 use mathlib.Core.Path.{sym}
 use lib.ListN.{get_or-eq_default}
-use borrow.Author.Rules.{rules}
 use Rattle.ranking.proofs.text.code.Goals as goal
 
 pub returns : goal.returns

@@ -1,6 +1,5 @@
 -- `ranking::text::next_at` meets its contract: a code point alone, or two that join, or three.
 use Rattle.ranking.proofs.Texts.{code-end, code-alone, code-two, code-three}
-use borrow.Author.Rules.{rules}
 use Rattle.ranking.proofs.text.next_at.Goals as goal
 
 pub returns-then-text-at : goal.returns-then-text-at

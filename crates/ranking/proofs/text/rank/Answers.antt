@@ -1,7 +1,6 @@
 -- `ranking::text::rank` meets its contract: the checks refuse, or the two texts are ranked.
 use Rattle.answers.proofs.Verdicts.{checks-passed}
 use Rattle.ranking.proofs.Calls.{two-short, ranks-refused, ranks-stands}
-use borrow.Author.Rules.{rules}
 use Rattle.ranking.proofs.text.rank.Goals as goal
 
 pub rank_checked-requires : goal.rank_checked-requires

@@ -1,7 +1,5 @@
 use native.Mathlib.Omega.{arith}
-use Rattle.ranking.specs.Inner.{joined_from, Follows}
-use Rattle.ranking.proofs.Texts.{measure_of, start, follows-none, follows_on, follows-reached, less, rank-found}
-use borrow.Author.Rules.{rules}
+use Rattle.ranking.proofs.Texts.{follows-none, follows_on, follows-reached, less, rank-found}
 use Rattle.ranking.proofs.text.rank_checked.Goals as goal
 
 pub loop-s-init : goal.loop-s-init

@@ -1,7 +1,6 @@
 -- `sorting::compare::by_label` meets its contract: no label is over the limit, so ranking refuses
 -- none.
 use Rattle.sorting.proofs.Standing.{labels-rank, labels-refused}
-use borrow.Author.Rules.{rules}
 use Rattle.sorting.proofs.compare.by_label.Goals as goal
 
 pub returns-in-Stands : goal.returns-in-Stands

@@ -1,7 +1,6 @@
 -- `sorting::compare::comes_before` meets its contract: one return for each answer.
 use Rattle.sorting.specs.Sorting.{is_before}
 use mathlib.Core.Path.{sym, ◌∙◌, ap}
-use borrow.Author.Rules.{rules}
 use Rattle.sorting.proofs.compare.comes_before.Goals as goal
 
 pub returns-in-Before : goal.returns-in-Before

@@ -2,7 +2,6 @@
 use mathlib.Core.Path.{sym}
 use native.Mathlib.Omega.{arith}
 use Rattle.sorting.proofs.Decimals.{decimal-short, decimal-size}
-use borrow.Author.Rules.{rules}
 use Rattle.sorting.proofs.decimal.decimal_size.Goals as goal
 
 pub returns-then-number-ge1000 : goal.returns-then-number-ge1000

@@ -1,9 +1,7 @@
-use Rattle.sorting.specs.Decimals.{decimal_of}
 use Rattle.sorting.proofs.Decimals.{decimal-some}
-use Rattle.sorting.proofs.Backing.{Backing, backing-none, backing-length, backing-room, backing-place, backing-more, backing-all}
+use Rattle.sorting.proofs.Backing.{backing-none, backing-length, backing-room, backing-place, backing-more, backing-all}
 use lib.ListN.{length-set}
 use native.Mathlib.Omega.{arith}
-use borrow.Author.Rules.{rules}
 use Rattle.sorting.proofs.decimal.put_decimal.Goals as goal
 
 pub overflow_add-end : goal.overflow_add-end

@@ -1,11 +1,7 @@
 -- `sorting::decimal::put_decimal` meets its contract. The loop's invariant: the digits after `next`
 -- are written, and those of `rest` are left.
 use Rattle.sorting.specs.Decimals.{decimal_of}
-use Rattle.sorting.proofs.Decimals.{decimal-some}
-use Rattle.sorting.proofs.Backing.{Backing, backing-none, backing-length, backing-room, backing-place, backing-more, backing-all}
-use lib.ListN.{length-set}
-use native.Mathlib.Omega.{arith}
-use borrow.Author.Rules.{rules}
+use Rattle.sorting.proofs.Backing.{Backing}
 use Rattle.sorting.proofs.decimal.put_decimal.Given as goal
 
 abbrev pub invariant-loop-rest : goal.invariant-loop-rest

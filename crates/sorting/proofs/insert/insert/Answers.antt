@@ -1,8 +1,6 @@
-use Rattle.sorting.proofs.Placing.{Moving, moving-begin, moving-next, moving-length, moving-done}
+use Rattle.sorting.proofs.Placing.{moving-begin, moving-next, moving-length, moving-done}
 use lib.ListN.{length-set}
 use native.Mathlib.Omega.{arith}
-use Prim.Native.Nat.{◌≤◌}
-use borrow.Author.Rules.{rules}
 use Rattle.sorting.proofs.insert.insert.Goals as goal
 
 pub loop-to-init : goal.loop-to-init

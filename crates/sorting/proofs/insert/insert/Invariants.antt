@@ -1,10 +1,7 @@
 -- `sorting::insert::insert` meets its contract. The loop's invariant: those from `to` on have moved
 -- up by one (`Moving`).
-use Rattle.sorting.proofs.Placing.{Moving, moving-begin, moving-next, moving-length, moving-done}
-use lib.ListN.{length-set}
-use native.Mathlib.Omega.{arith}
+use Rattle.sorting.proofs.Placing.{Moving}
 use Prim.Native.Nat.{◌≤◌}
-use borrow.Author.Rules.{rules}
 use Rattle.sorting.proofs.insert.insert.Given as goal
 
 abbrev pub invariant-loop-to : goal.invariant-loop-to

@@ -2,7 +2,6 @@
 use native.Mathlib.Omega.{arith}
 use Rattle.sorting.proofs.Decimals.{decimal-most}
 use Rattle.sorting.proofs.NumberLines.{line-length}
-use borrow.Author.Rules.{rules}
 use Rattle.sorting.proofs.lines.line_size.Goals as goal
 
 pub overflow_add-result : goal.overflow_add-result

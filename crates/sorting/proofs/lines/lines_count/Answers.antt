@@ -1,10 +1,6 @@
 use Rattle.sorting.proofs.NumberLines.{u32-line, line-piece, line-end}
-use Rattle.sorting.specs.Printing.{number_line}
-use Rattle.laws.proofs.Filling.{Counting, counting-none, counting_more, counting-all}
-use Rattle.laws.specs.Lists.{each}
-use lib.ListN.{take, drop}
+use Rattle.laws.proofs.Filling.{counting-none, counting_more, counting-all}
 use native.Mathlib.Omega.{arith}
-use Prim.Native.Nat.{◌*◌, ◌-◌, ◌≤◌}
 use borrow.Author.Rules.{rules}
 use Rattle.sorting.proofs.lines.lines_count.Goals as goal
 

@@ -1,13 +1,10 @@
 -- `sorting::lines::lines_count` meets its contract. The loop's invariant: what is counted and what
 -- is left make up all lines, and no line has more than 11 bytes.
-use Rattle.sorting.proofs.NumberLines.{u32-line, line-piece, line-end}
 use Rattle.sorting.specs.Printing.{number_line}
-use Rattle.laws.proofs.Filling.{Counting, counting-none, counting_more, counting-all}
+use Rattle.laws.proofs.Filling.{Counting}
 use Rattle.laws.specs.Lists.{each}
 use lib.ListN.{take, drop}
-use native.Mathlib.Omega.{arith}
 use Prim.Native.Nat.{◌*◌, ◌-◌, ◌≤◌}
-use borrow.Author.Rules.{rules}
 use Rattle.sorting.proofs.lines.lines_count.Given as goal
 
 abbrev pub invariant-loop-read : goal.invariant-loop-read

@@ -2,7 +2,6 @@
 -- lines are counted.
 use native.Mathlib.Omega.{arith}
 use Rattle.answers.proofs.Checks.{lacking-none, lacking-counted}
-use borrow.Author.Rules.{rules}
 use Rattle.sorting.proofs.lines.lines_lacking.Goals as goal
 
 pub returns-then-room-ge-ENOUGH : goal.returns-then-room-ge-ENOUGH

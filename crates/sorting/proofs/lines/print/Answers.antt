@@ -4,7 +4,6 @@ use native.Mathlib.Omega.{arith}
 use Rattle.answers.proofs.Checks.{lacking-room}
 use Rattle.sorting.proofs.Printed.{numbers-inside, numbers-short, numbers-most, prints-refused, prints-bad, prints-lacking, prints-done}
 use Rattle.sorting.proofs.Sorted.{order-right, order-length}
-use borrow.Author.Rules.{rules}
 use Rattle.sorting.proofs.lines.print.Goals as goal
 
 pub lines_lacking-needed-requires : goal.lines_lacking-needed-requires
@@ -16,8 +15,11 @@ returns-then-needed-ne0 c = prints-lacking _ (order-length _) (omega arith) c.or
     c.in-Records.is _ c.lines_lacking-needed.ensures c.if-needed-ne0.true
 
 pub put_lines-requires : goal.put_lines-requires
-put_lines-requires c = record { count_in_bounds = numbers-inside _ (order-length _) (omega arith) c.order-judged.ensures
-      c.in-Records.is; numbers_in_bounds = lacking-room _ _ c.lines_lacking-needed.ensures c.if-needed-ne0.false }
+put_lines-requires c = record {
+  count_in_bounds = numbers-inside _ (order-length _) (omega arith) c.order-judged.ensures
+      c.in-Records.is;
+  numbers_in_bounds = lacking-room _ _ c.lines_lacking-needed.ensures c.if-needed-ne0.false;
+}
 
 pub returns-else-needed-ne0 : goal.returns-else-needed-ne0
 returns-else-needed-ne0 c = prints-done _ (order-length _) (omega arith)

@@ -3,7 +3,6 @@ use mathlib.Core.Path.{refl}
 use native.Mathlib.Omega.{arith}
 use Rattle.laws.proofs.Filling.{room-first, room-second, room-one, wrote_one, wrote-two}
 use Rattle.sorting.proofs.NumberLines.{line-pieces, line-length}
-use borrow.Author.Rules.{rules}
 use Rattle.sorting.proofs.lines.put.Goals as goal
 
 pub put_decimal-end-requires : goal.put_decimal-end-requires

@@ -1,9 +1,5 @@
 use Rattle.sorting.proofs.NumberLines.{line-piece, line-end}
-use Rattle.sorting.specs.Printing.{number_line}
-use Rattle.laws.proofs.Filling.{Filling, filling-none, filling-length, filling-room, filling-more, filling-all}
-use Rattle.laws.specs.Lists.{each}
-use lib.ListN.{take, drop}
-use Prim.Native.Nat.{◌≤◌, ◌-◌}
+use Rattle.laws.proofs.Filling.{filling-none, filling-length, filling-room, filling-more, filling-all}
 use borrow.Author.Rules.{rules}
 use Rattle.sorting.proofs.lines.put_lines.Goals as goal
 

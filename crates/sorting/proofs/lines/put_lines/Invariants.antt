@@ -1,12 +1,10 @@
 -- `sorting::lines::put_lines` meets its contract. The loop's invariant: what is written and what is
 -- left make up all lines.
-use Rattle.sorting.proofs.NumberLines.{line-piece, line-end}
 use Rattle.sorting.specs.Printing.{number_line}
-use Rattle.laws.proofs.Filling.{Filling, filling-none, filling-length, filling-room, filling-more, filling-all}
+use Rattle.laws.proofs.Filling.{Filling}
 use Rattle.laws.specs.Lists.{each}
 use lib.ListN.{take, drop}
 use Prim.Native.Nat.{◌≤◌, ◌-◌}
-use borrow.Author.Rules.{rules}
 use Rattle.sorting.proofs.lines.put_lines.Given as goal
 
 abbrev pub invariant-loop-read : goal.invariant-loop-read

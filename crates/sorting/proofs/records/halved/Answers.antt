@@ -2,7 +2,6 @@
 -- the numbers are sorted.
 use Rattle.sorting.proofs.Placing.{halved-right, halved-left}
 use native.Mathlib.Omega.{arith}
-use borrow.Author.Rules.{rules}
 use Rattle.sorting.proofs.records.halved.Goals as goal
 
 pub returns-then-comes_before : goal.returns-then-comes_before

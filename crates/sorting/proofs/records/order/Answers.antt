@@ -1,7 +1,6 @@
 -- `sorting::records::order` meets its contract: what is refused before 3, no room, or the order.
 use Rattle.sorting.proofs.Ordering.{records-taken, records-count, orders-refused, orders-bad, orders-room, orders-done}
 use native.Mathlib.Omega.{arith}
-use borrow.Author.Rules.{rules}
 use Rattle.sorting.proofs.records.order.Goals as goal
 
 pub returns-then-out-count : goal.returns-then-out-count

@@ -1,11 +1,6 @@
 use Rattle.labels.proofs.Images.{taken-count}
 use Rattle.sorting.proofs.Ordering.{ordered-begin, ordered-size, ordered-search, ordered-more, ordered_end}
-use Rattle.sorting.specs.Sorting.{standing, sorted_by}
-use Rattle.laws.specs.Writing.{front}
 use native.Mathlib.Omega.{arith}
-use Prim.Native.Nat.{◌≤◌, ◌-◌}
-use mathlib.Core.Path.{◌≡◌}
-use borrow.Author.Rules.{rules}
 use Rattle.sorting.proofs.records.order_into.Goals as goal
 
 pub loop-number-init : goal.loop-number-init
@@ -19,10 +14,10 @@ place_of-at-requires c = ordered-search _ _ (omega arith) c.loop-number.invarian
 
 pub overflow_cast-number-in-loop-number : goal.overflow_cast-number-in-loop-number
 overflow_cast-number-in-loop-number c = omega (
-      arith,
-      taken-count _ c.requires.image_value,
-      c.requires.count_value,
-    )
+  arith,
+  taken-count _ c.requires.image_value,
+  c.requires.count_value,
+)
 
 pub insert-requires : goal.insert-requires
 insert-requires c = record { at_le_count = c.place_of-at.ensures.inside; count_in_bounds = omega (arith, ordered-size _ _ {n = c.loop-number.number} (omega arith) c.loop-number.invariant.1) }

@@ -1,6 +1,4 @@
 use Rattle.sorting.proofs.Placing.{between-all, between_none}
-use Rattle.sorting.specs.Inner.{Between}
-use Prim.Native.Nat.{◌-◌}
 use borrow.Author.Rules.{rules}
 use Rattle.sorting.proofs.records.place_of.Goals as goal
 

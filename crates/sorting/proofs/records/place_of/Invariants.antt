@@ -1,9 +1,7 @@
 -- `sorting::records::place_of` meets its contract. The loop's invariant: the place is in the span,
 -- which gets shorter.
-use Rattle.sorting.proofs.Placing.{between-all, between_none}
 use Rattle.sorting.specs.Inner.{Between}
 use Prim.Native.Nat.{◌-◌}
-use borrow.Author.Rules.{rules}
 use Rattle.sorting.proofs.records.place_of.Given as goal
 
 abbrev pub invariant-loop-span : goal.invariant-loop-span

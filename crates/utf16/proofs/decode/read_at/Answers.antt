@@ -2,7 +2,6 @@
 use mathlib.Core.Path.{refl, ◌∙◌}
 use native.Mathlib.Omega.{arith}
 use Rattle.utf16.proofs.Takes.{at-end, at_low, at_high, at-unpaired-low, begins-pair}
-use borrow.Author.Rules.{rules}
 use Rattle.utf16.proofs.decode.read_at.Goals as goal
 
 pub returns-then-text-at : goal.returns-then-text-at

@@ -2,7 +2,6 @@
 -- or a pair.
 use mathlib.Core.Path.{◌∙◌}
 use Rattle.utf16.proofs.Takes.{at_pair, at_before, at_after}
-use borrow.Author.Rules.{rules}
 use Rattle.utf16.proofs.decode.read_pair.Goals as goal
 
 pub returns-then-second-lt56320 : goal.returns-then-second-lt56320

@@ -3,7 +3,6 @@
 use mathlib.Core.Path.{refl, sym}
 use native.Mathlib.Omega.{arith}
 use lib.ListN.{get_or-eq_default}
-use borrow.Author.Rules.{rules}
 use Rattle.utf16.proofs.decode.unit_at.Goals as goal
 
 pub overflow_cast-result : goal.overflow_cast-result

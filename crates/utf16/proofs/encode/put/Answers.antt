@@ -3,7 +3,6 @@ use native.Mathlib.Omega.{arith}
 use lib.ListN.{length-set}
 use Rattle.laws.proofs.Filling.{wrote_one, wrote-pair, room-one, room-all}
 use Rattle.utf16.proofs.Writing.{units-one, units-two}
-use borrow.Author.Rules.{rules}
 use Rattle.utf16.proofs.encode.put.Goals as goal
 
 pub bounds-out-at : goal.bounds-out-at

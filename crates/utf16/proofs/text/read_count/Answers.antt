@@ -3,11 +3,9 @@ use Rattle.encodings.proofs.Taking.{taken_next}
 use Rattle.encodings.proofs.Reading.{next-piece, read-end}
 use Rattle.encodings.proofs.Texts.{read-most}
 use Rattle.utf16.proofs.Forms.{encodes16}
-use Rattle.utf16.specs.Utf16.{form16, read_units}
-use Rattle.laws.proofs.Filling.{Counting, counting-none, counting-fits, counting_more, counting-all}
-use lib.ListN.{length, drop}
+use Rattle.utf16.specs.Utf16.{form16}
+use Rattle.laws.proofs.Filling.{counting-none, counting-fits, counting_more, counting-all}
 use native.Mathlib.Omega.{arith}
-use Prim.Native.Nat.{◌≤◌, ◌-◌}
 use borrow.Author.Rules.{rules}
 use Rattle.utf16.proofs.text.read_count.Goals as goal
 
@@ -16,27 +14,27 @@ loop-at-init c = (search rules, counting-none _)
 
 pub overflow_add-at : goal.overflow_add-at
 overflow_add-at c = omega (
-      arith,
-      (taken_next form16 _ _ c.loop-at-test.true c.read_at-taken.ensures).inside,
-      c.requires,
-    )
+  arith,
+  (taken_next form16 _ _ c.loop-at-test.true c.read_at-taken.ensures).inside,
+  c.requires,
+)
 
 pub overflow_add-count : goal.overflow_add-count
 overflow_add-count c = omega (
-      arith,
-      counting-fits c.loop-at.invariant.1
-          (next-piece (taken_next form16 _ _ c.loop-at-test.true c.read_at-taken.ensures)) refl,
-      read-most encodes16 c.args.text.now,
-      c.requires,
-    )
+  arith,
+  counting-fits c.loop-at.invariant.1
+      (next-piece (taken_next form16 _ _ c.loop-at-test.true c.read_at-taken.ensures)) refl,
+  read-most encodes16 c.args.text.now,
+  c.requires,
+)
 
 pub loop-at-smaller : goal.loop-at-smaller
 loop-at-smaller c = omega (
-      arith,
-      (taken_next form16 _ _ c.loop-at-test.true c.read_at-taken.ensures).inside,
-      (taken_next form16 _ _ c.loop-at-test.true c.read_at-taken.ensures).more,
-      c.loop-at-test.true,
-    )
+  arith,
+  (taken_next form16 _ _ c.loop-at-test.true c.read_at-taken.ensures).inside,
+  (taken_next form16 _ _ c.loop-at-test.true c.read_at-taken.ensures).more,
+  c.loop-at-test.true,
+)
 
 pub loop-at-preserved : goal.loop-at-preserved
 loop-at-preserved c = (

@@ -1,16 +1,9 @@
 -- `utf16::text::read_count` meets its contract. The loop's invariant: what is counted and what is
 -- left to be read make up the whole.
-use mathlib.Core.Path.{refl}
-use Rattle.encodings.proofs.Taking.{taken_next}
-use Rattle.encodings.proofs.Reading.{next-piece, read-end}
-use Rattle.encodings.proofs.Texts.{read-most}
-use Rattle.utf16.proofs.Forms.{encodes16}
-use Rattle.utf16.specs.Utf16.{form16, read_units}
-use Rattle.laws.proofs.Filling.{Counting, counting-none, counting-fits, counting_more, counting-all}
+use Rattle.utf16.specs.Utf16.{read_units}
+use Rattle.laws.proofs.Filling.{Counting}
 use lib.ListN.{length, drop}
-use native.Mathlib.Omega.{arith}
 use Prim.Native.Nat.{◌≤◌, ◌-◌}
-use borrow.Author.Rules.{rules}
 use Rattle.utf16.proofs.text.read_count.Given as goal
 
 abbrev pub invariant-loop-at : goal.invariant-loop-at

@@ -4,7 +4,6 @@ use Rattle.answers.proofs.Checks.{lacking-none, lacking-counted}
 use native.Mathlib.Omega.{arith}
 use Rattle.encodings.proofs.Texts.{read-most}
 use Rattle.utf16.proofs.Forms.{encodes16}
-use borrow.Author.Rules.{rules}
 use Rattle.utf16.proofs.text.read_lacking.Goals as goal
 
 pub returns-then-text-room : goal.returns-then-text-room

@@ -1,11 +1,8 @@
-use Rattle.laws.proofs.Filling.{each-piece, Counting, counting-none, counting-fits, counting_more, counting-all}
+use Rattle.laws.proofs.Filling.{each-piece, counting-none, counting-fits, counting_more, counting-all}
 use Rattle.laws.proofs.Lists.{each-end}
-use Rattle.utf16.specs.Utf16.{units16, write_units}
+use Rattle.utf16.specs.Utf16.{units16}
 use Rattle.utf16.proofs.Writing.{write-most}
-use Rattle.laws.specs.Lists.{each}
-use lib.ListN.{length, drop}
 use native.Mathlib.Omega.{arith}
-use Prim.Native.Nat.{◌≤◌, ◌-◌}
 use borrow.Author.Rules.{rules}
 use Rattle.utf16.proofs.text.write_count.Goals as goal
 
@@ -14,11 +11,11 @@ loop-i-init c = (search rules, counting-none _)
 
 pub overflow_add-count : goal.overflow_add-count
 overflow_add-count c = omega (
-      arith,
-      counting-fits c.loop-i.invariant.1 (each-piece units16 0 _ _ c.loop-i-test.true) c.size_of-count.ensures,
-      write-most c.args.text.now,
-      c.requires,
-    )
+  arith,
+  counting-fits c.loop-i.invariant.1 (each-piece units16 0 _ _ c.loop-i-test.true) c.size_of-count.ensures,
+  write-most c.args.text.now,
+  c.requires,
+)
 
 pub loop-i-preserved : goal.loop-i-preserved
 loop-i-preserved c = (

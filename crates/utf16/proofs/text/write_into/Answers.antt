@@ -1,11 +1,8 @@
-use Rattle.laws.proofs.Filling.{each-piece, Filling, filling-none, filling-length, filling-room, filling-more, filling-all}
+use Rattle.laws.proofs.Filling.{each-piece, filling-none, filling-length, filling-room, filling-more, filling-all}
 use Rattle.laws.proofs.Lists.{each-end}
-use Rattle.utf16.specs.Utf16.{units16, form16, write_units}
+use Rattle.utf16.specs.Utf16.{units16, form16}
 use Rattle.answers.proofs.Checks.{taken-most}
 use Rattle.encodings.proofs.Texts.{wrote-all}
-use Rattle.laws.specs.Lists.{each}
-use lib.ListN.{length, drop}
-use Prim.Native.Nat.{◌≤◌, ◌-◌}
 use borrow.Author.Rules.{rules}
 use Rattle.utf16.proofs.text.write_into.Goals as goal
 

@@ -3,7 +3,6 @@
 use Rattle.utf16.specs.Utf16.{write_units}
 use Rattle.answers.proofs.Verdicts.{checks-passed, makes-refused, makes-lacking, makes-done}
 use Rattle.answers.proofs.Checks.{text-short, lacking-room}
-use borrow.Author.Rules.{rules}
 use Rattle.utf16.proofs.text.write_units.Goals as goal
 
 pub write_lacking-needed-requires : goal.write_lacking-needed-requires

@@ -1,10 +1,7 @@
-use Prim.Native.Nat.{◌+◌, ◌≤◌, ◌-◌}
 use native.Mathlib.Omega.{arith}
-use lib.ListN.{length, drop}
 use Rattle.encodings.proofs.Ills.{ill-next, ill-here, ill-end}
 use Rattle.encodings.proofs.Taking.{taken_next}
-use Rattle.utf8.specs.Utf8.{form8, first_ill}
-use mathlib.Core.Path.{◌≡◌}
+use Rattle.utf8.specs.Utf8.{form8}
 use borrow.Author.Rules.{rules}
 use Rattle.utf8.proofs.decode.first_ill.Goals as goal
 
@@ -16,17 +13,17 @@ returns-then-taken-ne0 c = ill-here form8 _ _ _ c.read_at-taken.ensures c.if-tak
 
 pub overflow_add-at : goal.overflow_add-at
 overflow_add-at c = omega (
-      arith,
-      (taken_next form8 _ _ c.loop-at-test.true c.read_at-taken.ensures).inside,
-    )
+  arith,
+  (taken_next form8 _ _ c.loop-at-test.true c.read_at-taken.ensures).inside,
+)
 
 pub loop-at-smaller : goal.loop-at-smaller
 loop-at-smaller c = omega (
-      arith,
-      (taken_next form8 _ _ c.loop-at-test.true c.read_at-taken.ensures).inside,
-      (taken_next form8 _ _ c.loop-at-test.true c.read_at-taken.ensures).more,
-      c.loop-at-test.true,
-    )
+  arith,
+  (taken_next form8 _ _ c.loop-at-test.true c.read_at-taken.ensures).inside,
+  (taken_next form8 _ _ c.loop-at-test.true c.read_at-taken.ensures).more,
+  c.loop-at-test.true,
+)
 
 pub loop-at-preserved : goal.loop-at-preserved
 loop-at-preserved c = (

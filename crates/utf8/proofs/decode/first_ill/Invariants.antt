@@ -1,13 +1,9 @@
 -- `utf8::decode::first_ill` meets its contract. The loop's invariant: the first ill-formed subpart
 -- from the index on is the text's first.
 use Prim.Native.Nat.{◌+◌, ◌≤◌, ◌-◌}
-use native.Mathlib.Omega.{arith}
 use lib.ListN.{length, drop}
-use Rattle.encodings.proofs.Ills.{ill-next, ill-here, ill-end}
-use Rattle.encodings.proofs.Taking.{taken_next}
-use Rattle.utf8.specs.Utf8.{form8, first_ill}
+use Rattle.utf8.specs.Utf8.{first_ill}
 use mathlib.Core.Path.{◌≡◌}
-use borrow.Author.Rules.{rules}
 use Rattle.utf8.proofs.decode.first_ill.Given as goal
 
 abbrev pub invariant-loop-at : goal.invariant-loop-at

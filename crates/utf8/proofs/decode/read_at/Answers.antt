@@ -6,7 +6,6 @@ use Rattle.encodings.proofs.Taking.{begins-between, end-taken, one-taken, none-t
 use Rattle.utf8.specs.Utf8.{form8}
 use Rattle.utf8.specs.Table37.{table37}
 use Rattle.utf8.proofs.Rows.{row-over}
-use borrow.Author.Rules.{rules}
 use Rattle.utf8.proofs.decode.read_at.Goals as goal
 
 pub returns-then-text-at : goal.returns-then-text-at

@@ -6,7 +6,6 @@ use Rattle.utf8.proofs.Bits.{second-some, four-bits}
 use Rattle.encodings.specs.Reading.{good_of}
 use mathlib.Core.Path.{◌∙◌, ap}
 use native.Mathlib.Omega.{arith}
-use borrow.Author.Rules.{rules}
 use Rattle.utf8.proofs.decode.read_four.Goals as goal
 
 pub returns-then-not-is_within : goal.returns-then-not-is_within

@@ -6,7 +6,6 @@ use Rattle.utf8.proofs.Bits.{two-bits}
 use Rattle.encodings.specs.Reading.{good_of}
 use mathlib.Core.Path.{◌∙◌, ap}
 use native.Mathlib.Omega.{arith}
-use borrow.Author.Rules.{rules}
 use Rattle.utf8.proofs.decode.read_two.Goals as goal
 
 pub returns-then-not-is_continuation : goal.returns-then-not-is_continuation

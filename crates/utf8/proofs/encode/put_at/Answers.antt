@@ -4,7 +4,6 @@ use Rattle.utf8.specs.Utf8.{form8}
 use Rattle.encodings.proofs.Texts.{code_fits, code-lacks, code-over}
 use Rattle.laws.proofs.Filling.{wrote_none}
 use native.Mathlib.Omega.{arith}
-use borrow.Author.Rules.{rules}
 use Rattle.utf8.proofs.encode.put_at.Goals as goal
 
 pub returns-then-out-at : goal.returns-then-out-at
@@ -17,10 +16,13 @@ pub returns-then-code-gt1114111 : goal.returns-then-code-gt1114111
 returns-then-code-gt1114111 c = wrote_none (code-over form8 _ _ _ c.if-code-gt1114111.true)
 
 pub put-requires : goal.put-requires
-put-requires c = record { code_bound = omega (arith, c.if-code-gt1114111.false); room = record {
+put-requires c = record {
+  code_bound = omega (arith, c.if-code-gt1114111.false);
+  room = record {
     fits = omega
         (arith, c.if-out-at-2.false, c.size_of.ensures, c.if-out-at.false);
-  } }
+  };
+}
 
 pub returns : goal.returns
 returns c = rw (code_fits form8 c.args.code

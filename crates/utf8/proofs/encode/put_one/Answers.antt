@@ -1,7 +1,6 @@
 -- `utf8::encode::put_one` meets its contract: one store.
 use Rattle.utf8.proofs.Writing.{bytes_one}
 use Rattle.laws.proofs.Filling.{wrote_one, room-one}
-use borrow.Author.Rules.{rules}
 use Rattle.utf8.proofs.encode.put_one.Goals as goal
 
 pub bounds-out-at : goal.bounds-out-at

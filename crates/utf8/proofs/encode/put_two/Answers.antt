@@ -3,7 +3,6 @@ use Rattle.utf8.proofs.Writing.{bytes-two}
 use Rattle.laws.proofs.Filling.{wrote-pair, room-all}
 use native.Mathlib.Omega.{arith}
 use lib.ListN.{length-set}
-use borrow.Author.Rules.{rules}
 use Rattle.utf8.proofs.encode.put_two.Goals as goal
 
 pub bounds-out-at : goal.bounds-out-at

@@ -1,17 +1,11 @@
 -- `utf8::text::read_into` meets its contract. The loop's invariant: what is written and what is
 -- left to be read make up the whole, and so do the ill-formed subparts counted and those that are
 -- left.
-use Rattle.encodings.proofs.Reading.{Ills, ills-none, next-piece, next-ills, ills-fit, read-end, ills-end}
-use Rattle.encodings.proofs.Texts.{read-most}
-use Rattle.encodings.proofs.Taking.{taken_next}
-use Rattle.utf8.proofs.Round.{encodes8}
+use Rattle.encodings.proofs.Reading.{Ills}
 use Rattle.utf8.specs.Utf8.{form8, read_text}
 use Prim.Native.Nat.{◌≤◌, ◌-◌}
-use mathlib.Core.Path.{refl}
-use Rattle.laws.proofs.Filling.{Filling, wrote_one, room-one, filling-none, filling-count, filling-length, filling-room, filling-more, filling-all}
+use Rattle.laws.proofs.Filling.{Filling}
 use lib.ListN.{length, drop}
-use native.Mathlib.Omega.{arith}
-use borrow.Author.Rules.{rules}
 use Rattle.utf8.proofs.text.read_into.Given as goal
 
 abbrev pub invariant-loop-read : goal.invariant-loop-read

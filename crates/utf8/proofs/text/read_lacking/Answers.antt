@@ -3,7 +3,6 @@ use Rattle.answers.proofs.Checks.{lacking-none, lacking-counted}
 use native.Mathlib.Omega.{arith}
 use Rattle.encodings.proofs.Texts.{read-most}
 use Rattle.utf8.proofs.Round.{encodes8}
-use borrow.Author.Rules.{rules}
 use Rattle.utf8.proofs.text.read_lacking.Goals as goal
 
 pub returns-then-text-room : goal.returns-then-text-room

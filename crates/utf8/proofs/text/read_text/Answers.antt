@@ -3,7 +3,6 @@
 use Rattle.answers.proofs.Verdicts.{checks-passed}
 use Rattle.answers.proofs.Checks.{units-short, lacking-room}
 use Rattle.encodings.proofs.Reading.{reads-refused, reads-lacking, reads-done}
-use borrow.Author.Rules.{rules}
 use Rattle.utf8.proofs.text.read_text.Goals as goal
 
 pub read_lacking-needed-requires : goal.read_lacking-needed-requires

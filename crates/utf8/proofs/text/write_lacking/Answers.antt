@@ -3,7 +3,6 @@
 use Rattle.utf8.proofs.Writing.{write-most}
 use Rattle.answers.proofs.Checks.{lacking-none, lacking-counted}
 use native.Mathlib.Omega.{arith}
-use borrow.Author.Rules.{rules}
 use Rattle.utf8.proofs.text.write_lacking.Goals as goal
 
 pub returns-then-text-room : goal.returns-then-text-room

@@ -3,7 +3,6 @@
 use Rattle.utf8.specs.Utf8.{write_text}
 use Rattle.answers.proofs.Verdicts.{checks-passed, makes-refused, makes-lacking, makes-done}
 use Rattle.answers.proofs.Checks.{text-short, lacking-room}
-use borrow.Author.Rules.{rules}
 use Rattle.utf8.proofs.text.write_text.Goals as goal
 
 pub write_lacking-needed-requires : goal.write_lacking-needed-requires
