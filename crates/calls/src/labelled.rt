@@ -7,7 +7,7 @@ use wire::{Head, Reply};
 // Copies bytes to the front of what is lent: as many as there are, or as it has room for.
 fn copy(given: &[u8], lent: &mut [u8]) {
     let size = wire::at_most(lent.len(), given.len());
-    bytes::copy(&given[..size], lent);
+    lent[..size].copy_from_slice(&given[..size]);
 }
 
 // Copies a fresh record to the front of what is lent, which has room for it.

@@ -1,6 +1,8 @@
 // The head of a call: the bounds of each kind, and the sizes of what comes in and of what is lent.
 ghost use Rattle.std.specs.Prelude.{◌≤◌};
 
+use std::io;
+use std::io::{ErrorKind, Read, Stdin};
 use wire::Head;
 
 // What a kind takes and lends: the most elements of a, and whether these and what is lent are code
@@ -42,16 +44,29 @@ fn is_good(head: Head) -> bool {
     }
 }
 
+// Reads until the buffer is full: false if the input ends before it is.
+pub(crate) fn read_full(stdin: &mut Stdin, buffer: &mut [u8]) -> io::Result<bool> {
+    match stdin.read_exact(buffer) {
+        Ok(()) => Ok(true),
+        Err(error) => {
+            if error.kind() == ErrorKind::UnexpectedEof {
+                return Ok(false);
+            }
+            Err(error)
+        }
+    }
+}
+
 // Reads the next head. It is of kind 0, of which there is no call, if the input ends before it or
 // the call does not keep the bounds of its kind.
-pub(crate) fn next() -> Head {
+pub(crate) fn next(stdin: &mut Stdin) -> io::Result<Head> {
     let mut bytes = [0u8; 32];
-    let size = io::read_full(libc::STDIN_FILENO, &mut bytes);
+    let is_full = read_full(stdin, &mut bytes)?;
     let head = wire::head_of(&bytes);
-    if size == 32 && is_good(head) {
-        return head;
+    if is_full && is_good(head) {
+        return Ok(head);
     }
-    wire::head_of(&bytes[..0])
+    Ok(wire::head_of(&bytes[..0]))
 }
 
 // The sizes of a call: the bytes that come in, and the code points or the units that these are; the

@@ -6,6 +6,8 @@ mod heads;
 mod kinds;
 
 use heads::Sizes;
+use std::io;
+use std::io::{Stdin, Stdout, Write};
 use wire::{Head, Reply};
 
 // What is read and written is at most this large: the bytes, the code points and the units that
@@ -19,16 +21,22 @@ const ROOM: usize = 120000;
 const OUTPUT: usize = 480016;
 
 // Reads the elements of a call: false if the input ends before them.
-fn read_elements(sizes: Sizes, input: &mut [u8], text: &mut [u32], units: &mut [u16]) -> bool {
+fn read_elements(
+    stdin: &mut Stdin,
+    sizes: Sizes,
+    input: &mut [u8],
+    text: &mut [u32],
+    units: &mut [u16],
+) -> io::Result<bool> {
     let size = wire::at_most(input.len(), sizes.bytes);
-    if io::read_full(libc::STDIN_FILENO, &mut input[..size]) < size {
-        return false;
+    if !heads::read_full(stdin, &mut input[..size])? {
+        return Ok(false);
     }
     let codes = wire::at_most(text.len(), sizes.codes);
     wire::read_numbers(input, &mut text[..codes]);
     let count = wire::at_most(units.len(), sizes.units);
     wire::read_units(input, &mut units[..count]);
-    true
+    Ok(true)
 }
 
 // Makes the call with what came in.
@@ -55,12 +63,13 @@ fn answer(
 
 // Writes the answer and then what was lent: code points or units, of which the others are none.
 fn write_answer(
+    stdout: &mut Stdout,
     answer: Reply,
     sizes: Sizes,
     lent_codes: &[u32],
     lent_units: &[u16],
     output: &mut [u8],
-) -> bool {
+) -> io::Result<()> {
     let codes = wire::at_most(lent_codes.len(), sizes.lent_codes);
     let units = wire::at_most(lent_units.len(), sizes.lent_units);
     let end = wire::at_most(output.len(), sizes.end);
@@ -68,51 +77,58 @@ fn write_answer(
     wire::put_numbers(&lent_codes[..codes], &mut output[start..end]);
     wire::put_units(&lent_units[..units], &mut output[start..end]);
     wire::put_reply(answer, output);
-    io::write_all(libc::STDOUT_FILENO, &output[..end])
+    stdout.write_all(&output[..end])?;
+    stdout.flush()
 }
 
-// Answers the next call: false if there is none, or nothing more can be written.
+// Answers the next call: false if there is none.
 fn one_call(
+    stdin: &mut Stdin,
+    stdout: &mut Stdout,
     input: &mut [u8],
     text: &mut [u32],
     units: &mut [u16],
     lent_codes: &mut [u32],
     lent_units: &mut [u16],
     output: &mut [u8],
-) -> bool {
-    let head = heads::next();
+) -> io::Result<bool> {
+    let head = heads::next(stdin)?;
     if head.kind == 0 {
-        return false;
+        return Ok(false);
     }
     let sizes = heads::sizes_of(head);
-    if !read_elements(sizes, input, text, units) {
-        return false;
+    if !read_elements(stdin, sizes, input, text, units)? {
+        return Ok(false);
     }
     let answer = answer(head, sizes, text, units, lent_codes, lent_units);
-    write_answer(answer, sizes, lent_codes, lent_units, output)
+    write_answer(stdout, answer, sizes, lent_codes, lent_units, output)?;
+    Ok(true)
 }
 
 // Answers calls until the input ends, or a call is of no kind, too large, or breaks another bound
-// of its kind. As in `calls`, the loop counts its turns down from a number that no run uses up, and
-// stands apart from `main`.
+// of its kind. As in `calls`, no run uses up the turns of the loop, and it stands apart from
+// `main`.
 fn all_calls(
+    stdin: &mut Stdin,
+    stdout: &mut Stdout,
     input: &mut [u8],
     text: &mut [u32],
     units: &mut [u16],
     lent_codes: &mut [u32],
     lent_units: &mut [u16],
     output: &mut [u8],
-) {
-    let mut turns = u64::MAX;
-    while turns > 0 {
-        if !one_call(input, text, units, lent_codes, lent_units, output) {
-            return;
+) -> io::Result<()> {
+    for _ in 0..u64::MAX {
+        if !one_call(
+            stdin, stdout, input, text, units, lent_codes, lent_units, output,
+        )? {
+            break;
         }
-        turns -= 1;
     }
+    Ok(())
 }
 
-fn main() {
+fn main(rt: HostRuntime) -> io::Result<()> {
     let mut input = [0u8; INPUT];
     let mut text = [0u32; ELEMENTS];
     let mut units = [0u16; ELEMENTS];
@@ -120,11 +136,13 @@ fn main() {
     let mut lent_units = [0u16; ROOM];
     let mut output = [0u8; OUTPUT];
     all_calls(
+        &mut rt.stdin(),
+        &mut rt.stdout(),
         &mut input,
         &mut text,
         &mut units,
         &mut lent_codes,
         &mut lent_units,
         &mut output,
-    );
+    )
 }

@@ -3,11 +3,16 @@
 // from the published files and tests/cases.txt.
 #![tactic(auto)]
 
+ghost use Rattle.std.specs.Prelude.{IfOk, ◌≤◌, length};
+
 mod operand;
 mod put;
 mod single;
 mod texts;
 mod words;
+
+use std::io;
+use std::io::{Read, Stdin, Stdout};
 
 // What is read at once.
 const BLOCK: usize = 65536;
@@ -15,13 +20,27 @@ const BLOCK: usize = 65536;
 // A line that fills its buffer is too long.
 const LINE: usize = 4096;
 
-// Answers the line that is held.
-fn answer_line(line: &[u8], held: usize) {
-    if line.len() <= held {
-        put::no_vector();
-        return;
+// Reads until the buffer is full or the input ends, and says how many bytes came in.
+fn read_full(stdin: &mut Stdin, buffer: &mut [u8]) -> io::Result<usize>
+    ensures { IfOk result (λ size. size ≤ length buffer.new) }
+{
+    let mut size = 0;
+    while size < buffer.len() {
+        let more = stdin.read(&mut buffer[size..])?;
+        if more == 0 {
+            return Ok(size);
+        }
+        size += more;
     }
-    words::answer(&line[..held]);
+    Ok(size)
+}
+
+// Answers the line that is held.
+fn answer_line(stdout: &mut Stdout, line: &[u8], held: usize) -> io::Result<()> {
+    if line.len() <= held {
+        return put::no_vector(stdout);
+    }
+    words::answer(stdout, &line[..held])
 }
 
 // Holds a byte after those that are held, and says how many are held then: as many as the buffer
@@ -36,50 +55,53 @@ fn hold(byte: u8, line: &mut [u8], held: usize) -> usize {
 
 // Takes the next byte of the input: a line feed has the line answered, any other byte is held. Says
 // how many are held then.
-fn take(byte: u8, line: &mut [u8], held: usize) -> usize {
+fn take(stdout: &mut Stdout, byte: u8, line: &mut [u8], held: usize) -> io::Result<usize> {
     if byte == b'\n' {
-        answer_line(line, held);
-        put::byte(b'\n');
-        return 0;
+        answer_line(stdout, line, held)?;
+        put::byte(stdout, b'\n')?;
+        return Ok(0);
     }
-    hold(byte, line, held)
+    Ok(hold(byte, line, held))
 }
 
 // Answers the lines that end in a block, and holds what comes after the last of them.
-fn take_block(block: &[u8], line: &mut [u8], before: usize) -> usize {
+fn take_block(
+    stdout: &mut Stdout,
+    block: &[u8],
+    line: &mut [u8],
+    before: usize,
+) -> io::Result<usize> {
     let mut held = before;
-    let mut i = 0;
-    while i < block.len() {
-        held = take(block[i], line, held);
-        i += 1;
+    for byte in block {
+        held = take(stdout, *byte, line, held)?;
     }
-    held
+    Ok(held)
 }
 
 // What comes after the last line feed is no line: it is answered as such, so that a cut input
 // shows.
-fn answer_rest(held: usize) {
+fn answer_rest(stdout: &mut Stdout, held: usize) -> io::Result<()> {
     if held == 0 {
-        return;
+        return Ok(());
     }
-    put::no_vector();
-    put::byte(b'\n');
+    put::no_vector(stdout)?;
+    put::byte(stdout, b'\n')
 }
 
-// A proved loop has to end, and nothing says that the input does: this one counts its turns down
-// from a number that no run uses up.
-fn main() {
+// A proved loop has to end, and nothing says that the input does: no run uses up the turns of this
+// one.
+fn main(rt: HostRuntime) -> io::Result<()> {
+    let mut stdin = rt.stdin();
+    let mut stdout = rt.stdout();
     let mut block = [0u8; BLOCK];
     let mut line = [0u8; LINE];
     let mut held = 0;
-    let mut turns = u64::MAX;
-    while turns > 0 {
-        let size = io::read_full(libc::STDIN_FILENO, &mut block);
+    for _ in 0..u64::MAX {
+        let size = read_full(&mut stdin, &mut block)?;
         if size == 0 {
-            answer_rest(held);
-            return;
+            return answer_rest(&mut stdout, held);
         }
-        held = take_block(&block[..size], &mut line, held);
-        turns -= 1;
+        held = take_block(&mut stdout, &block[..size], &mut line, held)?;
     }
+    Ok(())
 }

@@ -1,31 +1,32 @@
 // Writing an answer to standard output, each piece at once: a buffer lent through all these
-// functions would make their check long. Nobody is told if a write fails.
+// functions would make their check long.
 ghost use Rattle.std.specs.Prelude.{◌≤◌};
 
 use answers::Refusal;
+use std::io;
+use std::io::{Stdout, Write};
 
-pub(crate) fn bytes(text: &[u8]) {
-    io::write_all(libc::STDOUT_FILENO, text);
+pub(crate) fn bytes(stdout: &mut Stdout, text: &[u8]) -> io::Result<()> {
+    stdout.write_all(text)
 }
 
-pub(crate) fn byte(value: u8) {
+pub(crate) fn byte(stdout: &mut Stdout, value: u8) -> io::Result<()> {
     let text = [value];
-    bytes(&text);
+    bytes(stdout, &text)
 }
 
 // The answer of what is no vector: a word says so before it writes anything else.
-pub(crate) fn no_vector() {
-    bytes(b"not a vector");
+pub(crate) fn no_vector(stdout: &mut Stdout) -> io::Result<()> {
+    bytes(stdout, b"not a vector")
 }
 
 // Writes the first `size` bytes of a text. The library promises that they are there; if they are
 // not, it shows.
-pub(crate) fn front(text: &[u8], size: usize) {
+pub(crate) fn front(stdout: &mut Stdout, text: &[u8], size: usize) -> io::Result<()> {
     if text.len() < size {
-        no_vector();
-        return;
+        return no_vector(stdout);
     }
-    bytes(&text[..size]);
+    bytes(stdout, &text[..size])
 }
 
 // The last digit of a number in capital hex.
@@ -48,10 +49,9 @@ fn spared(code: u32) -> usize
 }
 
 // A code in four to six digits. One that needs more is none, and shows.
-pub(crate) fn code(code: u32) {
+pub(crate) fn code(stdout: &mut Stdout, code: u32) -> io::Result<()> {
     if 0x100_0000 <= code {
-        no_vector();
-        return;
+        return no_vector(stdout);
     }
     let digits = [
         digit(code / 0x10_0000),
@@ -62,36 +62,33 @@ pub(crate) fn code(code: u32) {
         digit(code),
     ];
     let from = spared(code);
-    bytes(&digits[from..]);
+    bytes(stdout, &digits[from..])
 }
 
 // What comes before a code of a text: a space, and nothing before the first.
-fn gap(index: usize) {
+fn gap(stdout: &mut Stdout, index: usize) -> io::Result<()> {
     if index == 0 {
-        return;
+        return Ok(());
     }
-    byte(b' ');
+    byte(stdout, b' ')
 }
 
 // The first `count` codes, with single spaces between.
-pub(crate) fn codes(codes: &[u32], count: usize) {
+pub(crate) fn codes(stdout: &mut Stdout, codes: &[u32], count: usize) -> io::Result<()> {
     if codes.len() < count {
-        no_vector();
-        return;
+        return no_vector(stdout);
     }
-    let mut i = 0;
-    while i < count {
-        gap(i);
-        code(codes[i]);
-        i += 1;
+    for i in 0..count {
+        gap(stdout, i)?;
+        code(stdout, codes[i])?;
     }
+    Ok(())
 }
 
 // A refusal as `refused`, its number and its place.
-pub(crate) fn refusal(refusal: Refusal) {
+pub(crate) fn refusal(stdout: &mut Stdout, refusal: Refusal) -> io::Result<()> {
     let told = answers::tell(refusal);
-    bytes(b"refused ");
-    io::print_decimal(libc::STDOUT_FILENO, told.number as u64);
-    byte(b' ');
-    io::print_decimal(libc::STDOUT_FILENO, told.place as u64);
+    let number = told.number;
+    let place = told.place;
+    write!(stdout, "refused {number} {place}")
 }

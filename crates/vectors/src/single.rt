@@ -5,6 +5,8 @@ use answers::Filled;
 use encodings::Read;
 use letters::{Parts, Stepped};
 use names::Named;
+use std::io;
+use std::io::Stdout;
 
 // No name of a syllable is longer.
 const NAME: usize = 23;
@@ -12,64 +14,61 @@ const NAME: usize = 23;
 // The most bytes of a text, and so the most codes that they read as.
 const BYTES: usize = 512;
 
-fn put_parts(parts: Parts) {
+fn put_parts(stdout: &mut Stdout, parts: Parts) -> io::Result<()> {
     match parts {
-        Parts::One(only) => put::code(only),
+        Parts::One(only) => put::code(stdout, only),
         Parts::Two(first, second) => {
-            put::code(first);
-            put::byte(b' ');
-            put::code(second);
+            put::code(stdout, first)?;
+            put::byte(stdout, b' ')?;
+            put::code(stdout, second)
         }
     }
 }
 
-pub(crate) fn step(operand: &[u8]) {
+pub(crate) fn step(stdout: &mut Stdout, operand: &[u8]) -> io::Result<()> {
     let code = operand::code(operand);
     if code == operand::NO_CODE {
-        put::no_vector();
-        return;
+        return put::no_vector(stdout);
     }
     let stepped = letters::one_step(code);
     match stepped {
-        Stepped::Into(parts) => put_parts(parts),
-        Stepped::Refused(refusal) => put::refusal(refusal),
+        Stepped::Into(parts) => put_parts(stdout, parts),
+        Stepped::Refused(refusal) => put::refusal(stdout, refusal),
     }
 }
 
-pub(crate) fn name(operand: &[u8]) {
+pub(crate) fn name(stdout: &mut Stdout, operand: &[u8]) -> io::Result<()> {
     let code = operand::code(operand);
     if code == operand::NO_CODE {
-        put::no_vector();
-        return;
+        return put::no_vector(stdout);
     }
     let mut bytes = [0u8; NAME];
     let filled = names::name(code, &mut bytes);
     match filled {
-        Filled::Done(length) => put::front(&bytes, length),
-        Filled::Refused(refusal) => put::refusal(refusal),
+        Filled::Done(length) => put::front(stdout, &bytes, length),
+        Filled::Refused(refusal) => put::refusal(stdout, refusal),
     }
 }
 
 // Any bytes are a name to be read, none too.
-pub(crate) fn read(name: &[u8]) {
+pub(crate) fn read(stdout: &mut Stdout, name: &[u8]) -> io::Result<()> {
     let named = names::read_name(name);
     match named {
-        Named::Syllable(code) => put::code(code),
-        Named::Refused(refusal) => put::refusal(refusal),
+        Named::Syllable(code) => put::code(stdout, code),
+        Named::Refused(refusal) => put::refusal(stdout, refusal),
     }
 }
 
-pub(crate) fn utf8(operand: &[u8]) {
+pub(crate) fn utf8(stdout: &mut Stdout, operand: &[u8]) -> io::Result<()> {
     let mut bytes = [0u8; BYTES];
     let count = operand::bytes(operand, &mut bytes);
     if count == 0 {
-        put::no_vector();
-        return;
+        return put::no_vector(stdout);
     }
     let mut made = [0u32; BYTES];
     let read = utf8::read_text(&bytes[..count], &mut made);
     match read {
-        Read::Done(counted) => put::codes(&made, counted.length),
-        Read::Refused(refusal) => put::refusal(refusal),
+        Read::Done(counted) => put::codes(stdout, &made, counted.length),
+        Read::Refused(refusal) => put::refusal(stdout, refusal),
     }
 }

@@ -3,6 +3,8 @@
 // case and an arm in texts.
 use crate::texts::Text;
 use crate::{operand, put, single, texts};
+use std::io;
+use std::io::Stdout;
 
 // A line is a word, a space and operands. A code is capital hex of four to six digits, a text codes
 // with single spaces between. A refusal is answered `refused N PLACE`.
@@ -67,24 +69,23 @@ fn word_of(number: u64) -> Word {
 }
 
 // Writes the answer of a word with its operands.
-fn call(word: Word, operands: &[u8]) {
+fn call(stdout: &mut Stdout, word: Word, operands: &[u8]) -> io::Result<()> {
     match word {
-        Word::Text(text) => texts::each(text, operands),
-        Word::Step => single::step(operands),
-        Word::Name => single::name(operands),
-        Word::Read => single::read(operands),
-        Word::Utf8 => single::utf8(operands),
-        Word::Unknown => put::no_vector(),
+        Word::Text(text) => texts::each(stdout, text, operands),
+        Word::Step => single::step(stdout, operands),
+        Word::Name => single::name(stdout, operands),
+        Word::Read => single::read(stdout, operands),
+        Word::Utf8 => single::utf8(stdout, operands),
+        Word::Unknown => put::no_vector(stdout),
     }
 }
 
 // The same of a line: the word ends at the first space, and without one there is no operand.
-pub(crate) fn answer(line: &[u8]) {
+pub(crate) fn answer(stdout: &mut Stdout, line: &[u8]) -> io::Result<()> {
     let size = operand::find(line, b' ');
     if line.len() <= size {
-        put::no_vector();
-        return;
+        return put::no_vector(stdout);
     }
     let word = word_of(number_of(&line[..size]));
-    call(word, &line[size + 1..]);
+    call(stdout, word, &line[size + 1..])
 }
