@@ -204,25 +204,25 @@ module _ {s : At} {a b : Next} {m : Move} (f : WithinLimit s a b) (steps : Steps
   second-adds e = adds-within s.second b.size m.second f.second_fits e
 
 module _ (s : At) (a b : Next) (m : Move) (steps : Steps s.state a.front b.front m) {p q : ℕ}
-    (IsFirst-passes : p ≡ cond m.first a.size 0) (second-passes : q ≡ cond m.second b.size 0) where
+    (first-passes : p ≡ cond m.first a.size 0) (second-passes : q ≡ cond m.second b.size 0) where
   module _ (from : List ℕ → ℕ → List ℕ) (first second : List ℕ) (h : NextBegins from first s.first a) (k : NextBegins from second s.second b) where
     step-ranks : rank_from s.state (from first s.first) (from second s.second)
         ≡ rank_from m.state (from first (s.first + p)) (from second (s.second + q))
     step-ranks =
         steps.ranks (from first s.first) (from second s.second) h.front k.front
-        ∙ rw (IsFirst-passes, second-passes, passed_on from first s.first h m.first, passed_on from second s.second k m.second)
+        ∙ rw (first-passes, second-passes, passed_on from first s.first h m.first, passed_on from second s.second k m.second)
 
     step_follows : Follows from first second s (record { state = m.state; first = s.first + p; second = s.second + q })
     step_follows = record {
       ranks = step-ranks;
       first_on = omega arith;
       second-on = omega arith;
-      first-inside = rw IsFirst-passes (passed-inside from first s.first h m.first);
+      first-inside = rw first-passes (passed-inside from first s.first h m.first);
       second-inside = rw second-passes (passed-inside from second s.second k m.second);
     }
 
     step-more : Passed a.front m.first ⊎ Passed b.front m.second → s.first + s.second < s.first + p + (s.second + q)
-    step-more (inl (e, n)) = omega (arith, h.more n, IsFirst-passes ∙ ap (λ (c : Bool). cond c a.size 0) e)
+    step-more (inl (e, n)) = omega (arith, h.more n, first-passes ∙ ap (λ (c : Bool). cond c a.size 0) e)
     step-more (inr (e, n)) = omega (arith, k.more n, second-passes ∙ ap (λ (c : Bool). cond c b.size 0) e)
 
   -- THE STEP, wherever the two characters begin
