@@ -105,6 +105,7 @@ sub for_c {
         }
         push @wrong, "crate $crate gives C nothing" if !$any;
     }
+    push @wrong, "crates.txt has no static library" if !%static;
     return (\%given, @wrong);
 }
 
