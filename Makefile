@@ -1,6 +1,6 @@
 # The archive for C, proved, and its installation, for GNU make: 'make', 'make install PREFIX=..',
 # 'make uninstall PREFIX=..', 'make check', 'make bench'. It proves, tests and measures nothing
-# itself: rt, .ci/run and bench/run do.
+# itself: tests/build, .ci/run and bench/run do.
 SHELL := bash
 .SHELLFLAGS := -euo pipefail -c
 
@@ -15,14 +15,15 @@ VERSION := $(shell awk '$$2 ~ /^PULPHOPPER_VERSION_(MAJOR|MINOR|PATCH)$$/ { prin
 export PREFIX LIBDIR INCLUDEDIR DESTDIR VERSION
 
 archive := target/staticlib/libpulphopper.a
-sources := crates.txt $(shell find crates -name '*.rt' -o -name '*.antt')
+# what rt keeps in a crate's out/ is made, and none of them
+sources := crates.txt $(shell find crates -path 'crates/*/out' -prune -o \( -name '*.rt' -o -name '*.antt' \) -print)
 
 .PHONY: all check bench install uninstall places
 
 all: $(archive)
 
 $(archive): $(sources)
-	rt staticlib pulphopper
+	bash tests/build pulphopper
 
 check:
 	bash .ci/run

@@ -1,5 +1,5 @@
-# What .ci/fits and .ci/edits both read of a must-fail edit: its changes, and the function in whose
-# body each lies.
+# What .ci/fits, .ci/edits and tests/promises read of a must-fail edit: its changes, and the function
+# in whose body each lies.
 package edit;
 use strict;
 use warnings;
@@ -22,18 +22,38 @@ sub changes {
 # an edit in which wrong versions of several functions stand together, each to be judged by itself
 sub shared { my ($edit) = @_; return $edit =~ m{/helpers\w*(?:\.edit)?$} }
 
+# the functions of a source: each with its name, and where its text and its body begin and end
+sub functions {
+    my ($source) = @_;
+    my @functions;
+    while ($source =~ /^(?:pub(?:\(crate\))? )?(?:extern "C" )?fn (\w+).*?(?<=[ \n])\{\n(.*?)^\}$/msg) {
+        push @functions, { name => $1, begin => $-[0], from => $-[2], to => $+[2] };
+    }
+    return @functions;
+}
+
+# the module of a file of a crate's code, as MODULE/, or nothing at the root; none for another file
+sub module { my ($file) = @_; return $file =~ m{^src/(\w+)\.rt$} ? $1 =~ /^(?:lib|main)$/ ? "" : "$1/" : undef }
+
 # the function in whose body a text stands, as MODULE/NAME ('NAME' at the root of a crate); none for
 # a signature, a contract, a constant or a type
 sub body {
     my ($crate, $file, $old) = @_;
-    my ($module) = $file =~ m{^src/(\w+)\.rt$} or return undef;
+    my $module = module($file) // return undef;
     my $source = text("$crate/$file") // return undef;
     my $at = index $source, $old;
     return undef if $at < 0;
-    while ($source =~ /^(?:pub(?:\(crate\))? )?(?:extern "C" )?fn (\w+).*?(?<=[ \n])\{\n(.*?)^\}$/msg) {
-        my ($name, $from, $to) = ($1, $-[2], $+[2]);
-        return $module =~ /^(?:lib|main)$/ ? $name : "$module/$name" if $from <= $at && $at + length($old) <= $to;
-    }
+    for (functions($source)) { return "$module$_->{name}" if $_->{from} <= $at && $at + length($old) <= $_->{to} }
+    return undef;
+}
+
+# the function in whose text a line of a file stands, as body() names it
+sub at_line {
+    my ($crate, $file, $line) = @_;
+    my $module = module($file) // return undef;
+    my $source = text("$crate/$file") // return undef;
+    my $at = length join "", map { "$_\n" } (split /\n/, $source, -1)[0 .. $line - 2];
+    for (functions($source)) { return "$module$_->{name}" if $_->{begin} <= $at && $at <= $_->{to} }
     return undef;
 }
 

@@ -1,6 +1,6 @@
 # What tests/promises and tests/premises both read: the functions that the libraries export, each
 # with its contract in the words of a statement, and which file each word of a text is brought in
-# from.
+# from; and the functions that a static library gives to C.
 package exported;
 use strict;
 use warnings;
@@ -9,48 +9,104 @@ use utf8;
 sub text { my ($file) = @_; open my $handle, "<:encoding(UTF-8)", $file or die "no $file\n"; local $/; return scalar <$handle> }
 sub plain { my ($words) = @_; $words =~ s/\s+/ /g; $words =~ s/^ | $//g; return $words }
 
-# which file each word of a text is brought in from; a crate's own specs as other crates name them
+# which file each word of a text is brought in from
 sub origins {
     my ($text) = @_;
     my %from;
     while ($text =~ /^(?:ghost )?use (Rattle\S+)\.\{([^}]*)\}/mg) {
         my ($module, $words) = ($1, $2);
-        $module =~ s/·specs\.specs\./.specs./;
-        for (split /, */, $words) { my ($word, $here) = /^(\S+) as (\S+)$/ ? ($1, $2) : ($_, $_); $from{$here} = "$module.$word" }
+        for (split /,\s*/, $words) { my ($word, $here) = /^(\S+) as (\S+)$/ ? ($1, $2) : ($_, $_); $from{$here} = "$module.$word" }
     }
     return \%from;
 }
 
-# the exported functions by crate::name: those that a lib.rt brings out by `pub use`. Of each: its
-# parameters as [name, type], its result, the buffers that it may write, its contract (X is a buffer
-# before the call, X′ after it, r the result), the origins of the contract's words; and what is
-# wrong.
+# what stands between two braces that belong together
+my $braced = qr/\{((?:[^{}]++|(?<inner>\{(?:[^{}]++|(?&inner))*\}))*)\}/;
+
+# the function NAME of a source: its parameters as [name, type], its result, the buffers that it may
+# write, its contract (X is what a parameter was before the call, X' a buffer after it, r the
+# result), whether C can call it, and what of its clauses is not read; none if it is not there
+sub function {
+    my ($source, $name) = @_;
+    my ($before, $public, $given, $head) = $source =~ /^((?:#\[.*\]\n)*)pub ((?:unsafe )?(?:extern "C" )?)fn $name\(([^)]*)\)(.*?)^\{\n/ms or return undef;
+    my @parameters = map { [/^\s*(\w+): (.*?)\s*$/s] } grep { /\S/ } split /,\s*/, $given;
+    my ($result) = $head =~ /^ -> ([^\n]*?)\s*$/m;
+    my @contract;
+    while ($head =~ /^ +ensures(?: \w+)? $braced$/mg) { push @contract, plain($1) }
+    for (@contract) { s/\b(\w+)\.(?:now|old)\b/$1/g; s/\b(\w+)\.new\b/$1'/g; s/\bresult\b/r/g }
+    my $clauses = () = $head =~ /\bensures\b/g;
+    my @wrong;
+    push @wrong, "has a clause that is not read, or none" if $clauses == 0 or $clauses != @contract;
+    push @wrong, "has a requires" if $head =~ /\brequires\b/;
+    return {
+        name => $name, parameters => \@parameters, result => $result, lent => [map { $_->[0] } grep { $_->[1] =~ /^&mut / } @parameters],
+        contract => \@contract, origin => origins($source), wrong => \@wrong,
+        for_c => $public =~ /^extern "C" $/ && $before =~ /^#\[unsafe\(no_mangle\)\]$/m,
+    };
+}
+
+# the static libraries of crates.txt, which C alone calls: of each the crates that it names
+sub static { return map { /^(\w+) staticlib: ?(.*)$/ ? ($1 => [split / +/, $2]) : () } split /\n/, text("crates.txt") }
+
+# the exported functions by crate::name: those that a lib.rt brings out by `pub use`; and what is
+# wrong
 sub functions {
     my (%functions, @wrong);
+    my %static = static();
     for my $lib (glob "crates/*/src/lib.rt") {
         my ($crate) = $lib =~ m{^crates/(.*?)/};
-        next if -f "crates/$crate/src/main.rt";
-        for (split /\n/, text($lib)) {
-            push @wrong, "$lib: $_ is no `pub use MODULE::NAME;`" if /^\s*pub / and !/^pub use \w+::\w+;$/;
-            my ($module, $name) = /^pub use (\w+)::([a-z]\w*);$/ or next;
-            my $path = "${crate}::$name";
-            my $source = text("crates/$crate/src/$module.rt");
-            my ($given, $head) = $source =~ /^pub (?:extern "C" )?fn $name\(([^)]*)\)(.*?)^\{\n/ms;
-            if (!defined $head) { push @wrong, "$path is not in crates/$crate/src/$module.rt"; next }
-            my @parameters = map { [/^\s*(\w+): (.*?)\s*$/s] } grep { /\S/ } split /,\s*/, $given;
-            my ($result) = $head =~ /-> (.*?)\s*$/m;
-            my @contract = map { plain($_) } $head =~ /ensures \{\s*λ r\. ⌜(.*?)⌝\s*\}/sg;
-            for (@contract) { s/\(now \((\w+) \.entry\)\)/$1/g; s/\(now \((\w+) \.exit\)\)/$1′/g; s/now \((\w+) \.exit\)/$1′/g; s/\bnow r\b/r/g }
-            my $clauses = () = $head =~ /ensures/g;
-            push @wrong, "$path has a clause that is not read, or none" if $clauses == 0 or $clauses != @contract;
-            push @wrong, "$path has a requires" if $head =~ /requires/;
-            $functions{$path} = {
-                crate => $crate, module => $module, name => $name, parameters => \@parameters, result => $result,
-                lent => [map { $_->[0] } grep { $_->[1] =~ /^&mut / } @parameters], contract => \@contract, origin => origins($source),
-            };
+        next if -f "crates/$crate/src/main.rt" or $static{$crate};
+        my $table = text($lib);
+        $table =~ s{//.*}{}g;
+        for (map { plain($_) } $table =~ /^\s*(pub\b[^;]*;?)/mg) {
+            my ($module, $names) = /^pub use (\w+)::(\w+|\{[\w, ]+\});$/;
+            if (!defined $module) { push @wrong, "$lib: $_ is no `pub use MODULE::NAME;` or `pub use MODULE::{NAME, ..};`"; next }
+            for my $name ($names =~ /\w+/g) {
+                next if $name !~ /^[a-z]/;
+                my $path = "${crate}::$name";
+                my $f = function(text("crates/$crate/src/$module.rt"), $name);
+                if (!defined $f) { push @wrong, "$path is not in crates/$crate/src/$module.rt"; next }
+                push @wrong, map { "$path $_" } @{ $f->{wrong} };
+                $functions{$path} = { %$f, crate => $crate, module => $module };
+            }
         }
     }
     return (\%functions, @wrong);
+}
+
+# The functions that a static library gives to C: each is an exported function of a crate that it
+# names, of the same name, with the same parameters, result and clauses, each word of these brought
+# in from the same file. By name; and what is wrong.
+sub for_c {
+    my ($functions) = @_;
+    my %static = static();
+    my (%given, @wrong);
+    for my $crate (sort keys %static) {
+        my $any = 0;
+        for my $file (glob "crates/$crate/src/*.rt") {
+            my $source = text($file);
+            for my $name ($source =~ /\bfn (\w+)/g) {
+                my $path = "${crate}::$name";
+                my $f = function($source, $name);
+                if (!$f or !$f->{for_c}) { push @wrong, "$path is no `#[unsafe(no_mangle)] pub extern \"C\" fn`"; next }
+                $any = $given{$name} = 1;
+                push @wrong, map { "$path $_" } @{ $f->{wrong} };
+                my ($of) = grep { defined } map { $functions->{"${_}::$name"} } @{ $static{$crate} };
+                if (!$of) { push @wrong, "$path: no crate that $crate names exports a function of that name"; next }
+                my ($has, $wanted) = map {
+                    my $it = $_;
+                    join "; ", (map { "@$_" } @{ $it->{parameters} }), "-> $it->{result}", map {
+                        my $clause = $_;
+                        map { "ensures $_" } $clause, map { $it->{origin}{$_} // () } split /[\s().,]+/, $clause;
+                    } @{ $it->{contract} };
+                } $f, $of;
+                push @wrong, "$path has   $has\n    and $of->{crate}::$name has   $wanted" if $has ne $wanted;
+            }
+        }
+        push @wrong, "crate $crate gives C nothing" if !$any;
+    }
+    push @wrong, "crates.txt has no static library" if !%static;
+    return (\%given, @wrong);
 }
 
 1;
