@@ -32,8 +32,8 @@ module _ (r : Reply) where
   unfolding reply_bytes
   length-reply = length-each-number (r.refusal ∷ r.value ∷ r.second ∷ r.third ∷ [])
 
-  pub reply-none : (bytes : List ℕ) → length bytes < 16 → bytes ≡ sets bytes 0 (fitted (reply_bytes r) bytes 0)
-  reply-none bytes h = put-nothing (reply_bytes r) bytes (omega (arith, length-reply))
+  pub reply_none : (bytes : List ℕ) → length bytes < 16 → bytes ≡ sets bytes 0 (fitted (reply_bytes r) bytes 0)
+  reply_none bytes h = put-nothing (reply_bytes r) bytes (omega (arith, length-reply))
 
   pub reply-all : (b₀ b₁ b₂ b₃ b₄ : List ℕ) → 16 ≤ length b₀ → b₁ ≡ sets b₀ 0 (fitted (low_first r.refusal) b₀ 0)
       → b₂ ≡ sets b₁ 4 (fitted (low_first r.value) b₁ 4) → b₃ ≡ sets b₂ 8 (fitted (low_first r.second) b₂ 8)

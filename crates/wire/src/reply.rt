@@ -62,6 +62,7 @@ pub fn filled(answer: Filled) -> Reply
 }
 
 // Writes the answer's numbers to the front: nothing if there is no room for all of them.
+#[tactic(auto, using(crate::proofs::Replies::reply_none))]
 pub fn put_reply(answer: Reply, bytes: &mut [u8])
     ensures { bytes.new ≡ sets bytes.old 0 (fitted (reply_bytes answer) bytes.old 0) }
 {

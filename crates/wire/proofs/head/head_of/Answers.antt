@@ -1,6 +1,5 @@
 -- `wire::head::head_of` meets its contract.
 use Rattle.wire.proofs.Replies.{head-all}
-use borrow.Author.Rules.{rules}
 use Rattle.wire.proofs.head.head_of.Goals as goal
 
 pub returns : goal.returns

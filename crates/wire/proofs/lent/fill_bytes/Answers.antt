@@ -1,8 +1,6 @@
 use mathlib.Core.Path.{sym}
-use Prim.Native.Nat.{◌-◌}
-use lib.ListN.{length, replicate, length-replicate, get_or-replicate}
-use Rattle.wire.proofs.Filling.{Overwriting, overwriting-none, overwriting-next, overwriting-all}
-use borrow.Author.Rules.{rules}
+use lib.ListN.{length-replicate, get_or-replicate}
+use Rattle.wire.proofs.Filling.{overwriting-none, overwriting-next, overwriting-all}
 use Rattle.wire.proofs.lent.fill_bytes.Goals as goal
 
 pub loop-i-init : goal.loop-i-init

@@ -1,9 +1,7 @@
 -- `wire::lent::fill_bytes` meets its contract. In turn i the elements before i are filled.
-use mathlib.Core.Path.{sym}
 use Prim.Native.Nat.{◌-◌}
-use lib.ListN.{length, replicate, length-replicate, get_or-replicate}
-use Rattle.wire.proofs.Filling.{Overwriting, overwriting-none, overwriting-next, overwriting-all}
-use borrow.Author.Rules.{rules}
+use lib.ListN.{length, replicate}
+use Rattle.wire.proofs.Filling.{Overwriting}
 use Rattle.wire.proofs.lent.fill_bytes.Given as goal
 
 abbrev pub invariant-loop-i : goal.invariant-loop-i

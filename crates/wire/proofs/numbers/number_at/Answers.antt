@@ -1,7 +1,6 @@
 -- `wire::numbers::number_at` meets its contract.
 use mathlib.Core.Path.{sym}
 use Rattle.wire.proofs.FourBytes.{number-none, number-some}
-use borrow.Author.Rules.{rules}
 use Rattle.wire.proofs.numbers.number_at.Goals as goal
 
 pub returns-then-bytes-index : goal.returns-then-bytes-index

@@ -3,7 +3,6 @@
 use native.Mathlib.Omega.{arith}
 use lib.ListN.{length-set}
 use Rattle.wire.proofs.FourBytes.{put-none, put_four}
-use borrow.Author.Rules.{rules}
 use Rattle.wire.proofs.numbers.put_number.Goals as goal
 
 pub returns-then-bytes-index : goal.returns-then-bytes-index

@@ -1,13 +1,9 @@
-use Prim.Native.Nat.{◌-◌, ◌*◌, ◌≤◌}
 use native.Mathlib.Omega.{arith}
-use lib.ListN.{length, drop}
-use Rattle.laws.specs.Lists.{each}
 use Rattle.laws.proofs.Lists.{each-end}
-use Rattle.laws.proofs.Filling.{Filling, filling-none, filling-length, each-piece}
+use Rattle.laws.proofs.Filling.{filling-none, filling-length, each-piece}
 use Rattle.wire.specs.Numbers.{low_first}
 use Rattle.wire.proofs.Elements.{put-end}
 use Rattle.wire.proofs.FourBytes.{numbers_fit, numbers-none, put_next}
-use borrow.Author.Rules.{rules}
 use Rattle.wire.proofs.numbers.put_numbers.Goals as goal
 
 pub returns-then-bytes-values : goal.returns-then-bytes-values

@@ -1,14 +1,9 @@
 -- `wire::numbers::put_numbers` meets its contract. In turn i the numbers before i are written.
 use Prim.Native.Nat.{◌-◌, ◌*◌, ◌≤◌}
-use native.Mathlib.Omega.{arith}
 use lib.ListN.{length, drop}
 use Rattle.laws.specs.Lists.{each}
-use Rattle.laws.proofs.Lists.{each-end}
-use Rattle.laws.proofs.Filling.{Filling, filling-none, filling-length, each-piece}
+use Rattle.laws.proofs.Filling.{Filling}
 use Rattle.wire.specs.Numbers.{low_first}
-use Rattle.wire.proofs.Elements.{put-end}
-use Rattle.wire.proofs.FourBytes.{numbers_fit, numbers-none, put_next}
-use borrow.Author.Rules.{rules}
 use Rattle.wire.proofs.numbers.put_numbers.Given as goal
 
 abbrev pub invariant-loop-i : goal.invariant-loop-i

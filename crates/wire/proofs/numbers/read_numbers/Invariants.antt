@@ -1,11 +1,8 @@
 -- `wire::numbers::read_numbers` meets its contract. In turn i the numbers before i are read.
-use mathlib.Core.Path.{sym, ◌∙◌}
 use Prim.Native.Nat.{◌-◌}
 use lib.ListN.{length}
 use Rattle.wire.specs.Numbers.{numbers_of}
-use Rattle.wire.proofs.Filling.{Overwriting, overwriting-none, overwriting-next, overwriting-all}
-use Rattle.wire.proofs.Elements.{length-elements, elements-at}
-use borrow.Author.Rules.{rules}
+use Rattle.wire.proofs.Filling.{Overwriting}
 use Rattle.wire.proofs.numbers.read_numbers.Given as goal
 
 abbrev pub invariant-loop-i : goal.invariant-loop-i

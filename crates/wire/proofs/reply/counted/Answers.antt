@@ -1,5 +1,4 @@
 -- `wire::reply::counted` meets its contract.
-use borrow.Author.Rules.{rules}
 use Rattle.wire.proofs.reply.counted.Goals as goal
 
 pub returns : goal.returns

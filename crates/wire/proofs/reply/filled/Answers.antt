@@ -1,7 +1,6 @@
 -- `wire::reply::filled` meets its contract.
 use mathlib.Core.Path.{sym, ap, ◌∙◌}
 use Rattle.wire.specs.Messages.{short, filled_reply}
-use borrow.Author.Rules.{rules}
 use Rattle.wire.proofs.reply.filled.Goals as goal
 
 pub returns-in-Done : goal.returns-in-Done

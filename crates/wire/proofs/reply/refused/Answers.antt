@@ -1,6 +1,5 @@
 -- `wire::reply::refused` meets its contract.
 use Rattle.wire.proofs.Replies.{refused_all}
-use borrow.Author.Rules.{rules}
 use Rattle.wire.proofs.reply.refused.Goals as goal
 
 pub returns : goal.returns

@@ -1,7 +1,6 @@
 -- `wire::reply::shortened` meets its contract.
 use mathlib.Core.Path.{refl}
 use Rattle.wire.specs.Messages.{short}
-use borrow.Author.Rules.{rules}
 use Rattle.wire.proofs.reply.shortened.Goals as goal
 
 pub returns : goal.returns

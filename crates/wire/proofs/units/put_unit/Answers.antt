@@ -3,7 +3,6 @@
 use native.Mathlib.Omega.{arith}
 use lib.ListN.{length-set}
 use Rattle.wire.proofs.TwoBytes.{put-none, put_two}
-use borrow.Author.Rules.{rules}
 use Rattle.wire.proofs.units.put_unit.Goals as goal
 
 pub returns-then-bytes-index : goal.returns-then-bytes-index

@@ -1,13 +1,9 @@
-use Prim.Native.Nat.{◌-◌, ◌*◌, ◌≤◌}
 use native.Mathlib.Omega.{arith}
-use lib.ListN.{length, drop}
-use Rattle.laws.specs.Lists.{each}
 use Rattle.laws.proofs.Lists.{each-end}
-use Rattle.laws.proofs.Filling.{Filling, filling-none, filling-length, each-piece}
+use Rattle.laws.proofs.Filling.{filling-none, filling-length, each-piece}
 use Rattle.wire.specs.Numbers.{unit_bytes}
 use Rattle.wire.proofs.Elements.{put-end}
 use Rattle.wire.proofs.TwoBytes.{units-fit, units-none, put_next}
-use borrow.Author.Rules.{rules}
 use Rattle.wire.proofs.units.put_units.Goals as goal
 
 pub returns-then-bytes-values : goal.returns-then-bytes-values

@@ -1,14 +1,9 @@
 -- `wire::units::put_units` meets its contract. In turn i the units before i are written.
 use Prim.Native.Nat.{◌-◌, ◌*◌, ◌≤◌}
-use native.Mathlib.Omega.{arith}
 use lib.ListN.{length, drop}
 use Rattle.laws.specs.Lists.{each}
-use Rattle.laws.proofs.Lists.{each-end}
-use Rattle.laws.proofs.Filling.{Filling, filling-none, filling-length, each-piece}
+use Rattle.laws.proofs.Filling.{Filling}
 use Rattle.wire.specs.Numbers.{unit_bytes}
-use Rattle.wire.proofs.Elements.{put-end}
-use Rattle.wire.proofs.TwoBytes.{units-fit, units-none, put_next}
-use borrow.Author.Rules.{rules}
 use Rattle.wire.proofs.units.put_units.Given as goal
 
 abbrev pub invariant-loop-i : goal.invariant-loop-i

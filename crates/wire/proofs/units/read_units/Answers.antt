@@ -1,10 +1,6 @@
 use mathlib.Core.Path.{sym, ◌∙◌}
-use Prim.Native.Nat.{◌-◌}
-use lib.ListN.{length}
-use Rattle.wire.specs.Numbers.{units_of_bytes}
-use Rattle.wire.proofs.Filling.{Overwriting, overwriting-none, overwriting-next, overwriting-all}
+use Rattle.wire.proofs.Filling.{overwriting-none, overwriting-next, overwriting-all}
 use Rattle.wire.proofs.Elements.{length-elements, elements-at}
-use borrow.Author.Rules.{rules}
 use Rattle.wire.proofs.units.read_units.Goals as goal
 
 pub loop-i-init : goal.loop-i-init

@@ -1,11 +1,8 @@
 -- `wire::units::read_units` meets its contract. In turn i the units before i are read.
-use mathlib.Core.Path.{sym, ◌∙◌}
 use Prim.Native.Nat.{◌-◌}
 use lib.ListN.{length}
 use Rattle.wire.specs.Numbers.{units_of_bytes}
-use Rattle.wire.proofs.Filling.{Overwriting, overwriting-none, overwriting-next, overwriting-all}
-use Rattle.wire.proofs.Elements.{length-elements, elements-at}
-use borrow.Author.Rules.{rules}
+use Rattle.wire.proofs.Filling.{Overwriting}
 use Rattle.wire.proofs.units.read_units.Given as goal
 
 abbrev pub invariant-loop-i : goal.invariant-loop-i

@@ -1,7 +1,6 @@
 -- `wire::units::unit_at` meets its contract.
 use mathlib.Core.Path.{sym}
 use Rattle.wire.proofs.TwoBytes.{unit-none, unit-some}
-use borrow.Author.Rules.{rules}
 use Rattle.wire.proofs.units.unit_at.Goals as goal
 
 pub returns-then-bytes-index : goal.returns-then-bytes-index
