@@ -1,7 +1,6 @@
 -- `vectors::operand::are_numbers` is safe and ends. The loop keeps the index within the field.
 use Prim.Native.Nat.{◌≤◌, ◌-◌}
 use lib.ListN.{length}
-use borrow.Author.Rules.{rules}
 use Rattle.vectors.proofs.operand.are_numbers.Given as goal
 
 abbrev pub invariant-loop-i : goal.invariant-loop-i

@@ -2,9 +2,7 @@
 -- is at most that.
 use mathlib.Core.Path.{◌≡◌}
 use Prim.Native.Nat.{◌≤◌, ◌-◌}
-use native.Mathlib.Omega.{arith}
-use lib.ListN.{length, length-set}
-use borrow.Author.Rules.{rules}
+use lib.ListN.{length}
 use Rattle.vectors.proofs.operand.codes.Given as goal
 
 abbrev pub invariant-loop-count : goal.invariant-loop-count

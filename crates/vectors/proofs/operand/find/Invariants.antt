@@ -2,7 +2,6 @@
 -- the length.
 use Prim.Native.Nat.{◌≤◌, ◌-◌}
 use lib.ListN.{length}
-use borrow.Author.Rules.{rules}
 use Rattle.vectors.proofs.operand.find.Given as goal
 
 abbrev pub invariant-loop-i : goal.invariant-loop-i

@@ -2,7 +2,6 @@
 -- that one more never wraps.
 use Prim.Native.Nat.{◌≤◌, ◌<◌, ◌-◌}
 use lib.ListN.{length}
-use borrow.Author.Rules.{rules}
 use Rattle.vectors.proofs.operand.number_at.Given as goal
 
 abbrev pub invariant-loop-at : goal.invariant-loop-at

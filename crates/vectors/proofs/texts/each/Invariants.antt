@@ -1,10 +1,6 @@
 -- `vectors::texts::each` is safe and ends: each turn goes on after its field.
-use mathlib.Core.Path.{sym}
 use Prim.Native.Nat.{◌≤◌, ◌+◌, ◌-◌}
-use native.Mathlib.Omega.{arith}
 use lib.ListN.{length}
-use lib.Seq.{length-take-le}
-use borrow.Author.Rules.{rules}
 use Rattle.vectors.proofs.texts.each.Given as goal
 
 abbrev pub invariant-loop-from : goal.invariant-loop-from

@@ -1,8 +1,6 @@
 -- `vectors::words::number_of` is safe and ends. The loop keeps the index within the word.
 use Prim.Native.Nat.{◌≤◌, ◌-◌}
-use native.Mathlib.Omega.{arith}
 use lib.ListN.{length}
-use borrow.Author.Rules.{rules}
 use Rattle.vectors.proofs.words.number_of.Given as goal
 
 abbrev pub invariant-loop-i : goal.invariant-loop-i
