@@ -164,7 +164,7 @@ fn read_checked(name: &[u8]) -> Named
     let initials = crate::strings::initial_rows();
     let peaks = crate::strings::peak_rows();
     let finals = crate::strings::final_rows();
-    let found = search(name, &initials, &peaks, &finals);
+    let found = search(name, initials, peaks, finals);
     match found {
         Found::At(i, p, f) => Named::Syllable(syllable_by(i, p, f)),
         Found::Nothing => Named::Refused(Refusal::NoName),

@@ -105,11 +105,11 @@ fn name_by(indices: Indices, out: &mut [u8]) -> Filled
     let initials = crate::strings::initial_rows();
     let peaks = crate::strings::peak_rows();
     let finals = crate::strings::final_rows();
-    let needed = name_lacking(indices, &initials, &peaks, &finals, out.len());
+    let needed = name_lacking(indices, initials, peaks, finals, out.len());
     if needed != 0 {
         return Filled::Refused(Refusal::NoRoom(needed));
     }
-    Filled::Done(put_name(indices, &initials, &peaks, &finals, out))
+    Filled::Done(put_name(indices, initials, peaks, finals, out))
 }
 
 // The three indices of a syllable.
