@@ -5,14 +5,14 @@ ghost use Rattle.answers.specs.Checks.{lacking};
 use crate::refusal::Refusal;
 
 // The answer of a call that fills a lent buffer: how much of it, or why not.
-#[derive(Drop)]
+#[derive(Clone, Copy)]
 pub enum Filled {
     Done(usize),
     Refused(Refusal),
 }
 
 // What the checks before the work say: go on, or why not.
-#[derive(Drop)]
+#[derive(Clone, Copy)]
 pub enum Checked {
     Passed,
     Refused(Refusal),

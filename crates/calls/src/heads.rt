@@ -7,7 +7,7 @@ use wire::Head;
 
 // What a kind takes and lends: the most elements of a and of b, whether these are code points, and
 // whether what is lent is.
-#[derive(Drop)]
+#[derive(Clone, Copy)]
 struct Shape {
     first: usize,
     second: usize,

@@ -7,7 +7,7 @@ use wire::Head;
 
 // What a kind takes and lends: the most elements of a, and whether these and what is lent are code
 // points or units.
-#[derive(Drop)]
+#[derive(Clone, Copy)]
 struct Shape {
     first: usize,
     of_text: bool,

@@ -11,7 +11,7 @@ use crate::table::{Cell, Row};
 use joining::Emitted;
 
 // The codes from `low` on, before `high`, and those from `outer` on, before `end`.
-#[derive(Drop)]
+#[derive(Clone, Copy)]
 pub(crate) struct Span {
     pub low: u32,
     pub high: u32,
@@ -20,7 +20,7 @@ pub(crate) struct Span {
 }
 
 // A step's answer: what is not decided after it, and what it writes.
-#[derive(Drop)]
+#[derive(Clone, Copy)]
 pub(crate) struct Gathered {
     pub pending: Pending,
     pub out: Emitted,

@@ -17,7 +17,7 @@ use joining::{Emitted, Joiner};
 
 // What a call that gathers carries from letter to letter: the letters not yet decided, the joiner
 // after them, and the index after what is written.
-#[derive(Drop)]
+#[derive(Clone, Copy)]
 pub(crate) struct Writer {
     pub pending: Pending,
     pub joiner: Joiner,

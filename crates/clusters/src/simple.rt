@@ -60,7 +60,7 @@ fn put_simple(code: u32, table: &[Cell], out: &mut [u32], at: usize) -> usize
 }
 
 // The letters of a code point, seven at most, from the front, and how many they are.
-#[derive(Drop)]
+#[derive(Clone, Copy)]
 pub(crate) struct Letters {
     pub codes: [u32; 7],
     pub count: usize,

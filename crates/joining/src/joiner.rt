@@ -17,13 +17,13 @@ pub enum Open {
 }
 
 // The joiner carries what is open.
-#[derive(Drop)]
+#[derive(Clone, Copy)]
 pub struct Joiner {
     pub state: Open,
 }
 
 // What a step writes: at most two code points.
-#[derive(Drop)]
+#[derive(Clone, Copy)]
 pub enum Emitted {
     Empty,
     One(u32),
@@ -31,7 +31,7 @@ pub enum Emitted {
 }
 
 // A step's answer: the joiner after it, and what it writes.
-#[derive(Drop)]
+#[derive(Clone, Copy)]
 pub struct Outcome {
     pub joiner: Joiner,
     pub out: Emitted,

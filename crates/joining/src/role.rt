@@ -3,7 +3,7 @@ ghost use Rattle.std.specs.Prelude.{◌≡◌};
 ghost use Rattle.joining.specs.Roles.{role_of, pair, pair_as};
 ghost use Rattle.joining.specs.declared.role.Role.TheVariants.{Peak, Final};
 
-#[derive(Drop)]
+#[derive(Clone, Copy)]
 pub enum Role {
     Initial,
     Peak,

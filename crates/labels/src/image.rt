@@ -12,7 +12,7 @@ pub(crate) const MOST: usize = 65472;
 
 // The answer of reading a whole image: how many records it has, or why it is refused. Of a bad
 // record it says the number, and the first byte that breaks the layout.
-#[derive(Drop)]
+#[derive(Clone, Copy)]
 pub enum Judged {
     Records(usize),
     Refused(Refusal),

@@ -7,7 +7,7 @@ use crate::record::Entry;
 use answers::{Checked, Refusal};
 
 // The answer of reading one record.
-#[derive(Drop)]
+#[derive(Clone, Copy)]
 pub enum Found {
     Record(Entry),
     Refused(Refusal),

@@ -5,7 +5,7 @@ ghost use Rattle.labels.specs.Images.{record_at, label_at, berth_at};
 ghost use Rattle.laws.specs.Writing.{front};
 
 // What a record says beside its label: the object, the berth (0 for none) and the label's length.
-#[derive(Drop)]
+#[derive(Clone, Copy)]
 pub struct Entry {
     pub object: u32,
     pub berth: u16,

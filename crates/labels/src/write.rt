@@ -12,7 +12,7 @@ use answers::{Checked, Refusal};
 use encodings::Read;
 
 // How a label is stored.
-#[derive(Drop)]
+#[derive(Clone, Copy)]
 pub enum Form {
     AsGiven,
     Joined,

@@ -11,7 +11,7 @@ use crate::step::Parts;
 use answers::{Checked, Filled, Refusal};
 
 // The full parts of one code point: itself, or the letters of a syllable.
-#[derive(Drop)]
+#[derive(Clone, Copy)]
 pub enum Whole {
     One(u32),
     Two(u32, u32),

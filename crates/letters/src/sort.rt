@@ -8,14 +8,14 @@ ghost use Rattle.letters.specs.Answers.{sorted};
 use answers::Refusal;
 
 // What a letter is made of: it is simple, or a cluster of two or three simple letters.
-#[derive(Drop)]
+#[derive(Clone, Copy)]
 pub enum Make {
     Simple,
     Cluster,
 }
 
 // A letter's place and age, and its make; a filler's place; the two sorts of syllables; all else.
-#[derive(Drop)]
+#[derive(Clone, Copy)]
 pub enum Sort {
     ModernInitial(Make),
     OldInitial(Make),
@@ -31,7 +31,7 @@ pub enum Sort {
 }
 
 // The sorter's answer.
-#[derive(Drop)]
+#[derive(Clone, Copy)]
 pub enum Sorted {
     Is(Sort),
     Refused(Refusal),

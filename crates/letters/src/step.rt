@@ -8,14 +8,14 @@ ghost use Rattle.letters.specs.Answers.{codes_in, stepped};
 use answers::Refusal;
 
 // What one step makes of a code point: itself, or two parts.
-#[derive(Drop)]
+#[derive(Clone, Copy)]
 pub enum Parts {
     One(u32),
     Two(u32, u32),
 }
 
 // The one step's answer.
-#[derive(Drop)]
+#[derive(Clone, Copy)]
 pub enum Stepped {
     Into(Parts),
     Refused(Refusal),

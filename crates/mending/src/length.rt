@@ -6,7 +6,7 @@ ghost use Rattle.mending.specs.Inner.{CountReady, CountMoved, CountFits, CountPl
 use encodings::Taken;
 
 // How far counting has come.
-#[derive(Drop)]
+#[derive(Clone, Copy)]
 pub struct Count {
     pub read: usize,
     pub length: usize,

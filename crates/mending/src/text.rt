@@ -9,7 +9,7 @@ use answers::{Checked, Refusal};
 use encodings::{Counted, Read, Taken};
 
 // How far mending has come.
-#[derive(Drop)]
+#[derive(Clone, Copy)]
 pub struct At {
     pub read: usize,
     pub written: usize,

@@ -11,14 +11,14 @@ use crate::strings::Part;
 use answers::{Checked, Refusal};
 
 // The answer of reading a name: the syllable, or why there is none.
-#[derive(Drop)]
+#[derive(Clone, Copy)]
 pub enum Named {
     Syllable(u32),
     Refused(Refusal),
 }
 
 // What the search finds: I, P and F.
-#[derive(Drop)]
+#[derive(Clone, Copy)]
 pub(crate) enum Found {
     At(usize, usize, usize),
     Nothing,

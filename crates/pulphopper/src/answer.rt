@@ -9,7 +9,7 @@ use encodings::Counted;
 
 // The answer of every call. A refusal is its number, and value its place; 0 is none.
 #[repr(C)]
-#[derive(Drop)]
+#[derive(Clone, Copy)]
 pub struct Answer {
     pub refusal: u32,
     pub count: u32,

@@ -16,7 +16,7 @@ pub(crate) struct At {
 }
 
 // What is known then, and which of the two fronts have passed.
-#[derive(Drop)]
+#[derive(Clone, Copy)]
 pub(crate) struct Move {
     pub state: State,
     pub first: bool,
@@ -36,7 +36,7 @@ pub(crate) enum State {
 }
 
 // The front, and how much of the text it takes.
-#[derive(Drop)]
+#[derive(Clone, Copy)]
 pub(crate) struct Next {
     pub front: Front,
     pub size: usize,

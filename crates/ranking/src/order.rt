@@ -13,7 +13,7 @@ pub enum Order {
 }
 
 // The answer of a call that ranks.
-#[derive(Drop)]
+#[derive(Clone, Copy)]
 pub enum Ranked {
     Stands(Order),
     Refused(Refusal),

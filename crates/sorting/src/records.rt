@@ -11,7 +11,7 @@ use answers::Refusal;
 use labels::Judged;
 
 // Where a record's place may be: not below `low`, nor above `high`.
-#[derive(Drop)]
+#[derive(Clone, Copy)]
 pub(crate) struct Span {
     pub low: usize,
     pub high: usize,

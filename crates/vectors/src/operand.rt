@@ -15,7 +15,7 @@ const WRONG: usize = 7;
 pub(crate) const NO_CODE: u32 = 0x100_0000;
 
 // A number, and the index after its digits.
-#[derive(Drop)]
+#[derive(Clone, Copy)]
 struct Number {
     value: u32,
     after: usize,

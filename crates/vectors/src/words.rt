@@ -8,7 +8,7 @@ use std::io::Stdout;
 
 // A line is a word, a space and operands. A code is capital hex of four to six digits, a text codes
 // with single spaces between. A refusal is answered `refused N PLACE`.
-#[derive(Drop)]
+#[derive(Clone, Copy)]
 enum Word {
     // `join A;B;..`, and so parts, simple, gather and groups: texts; a text or a refusal for each,
     // with `;` between.

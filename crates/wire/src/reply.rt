@@ -7,7 +7,7 @@ ghost use Rattle.wire.specs.Messages.{short, done_reply, refused_reply, filled_r
 use crate::numbers::put_number;
 use answers::{Filled, Refusal};
 
-#[derive(Drop)]
+#[derive(Clone, Copy)]
 pub struct Reply {
     pub refusal: u32,
     pub value: u32,
