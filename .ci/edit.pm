@@ -22,12 +22,26 @@ sub changes {
 # an edit in which wrong versions of several functions stand together, each to be judged by itself
 sub shared { my ($edit) = @_; return $edit =~ m{/helpers\w*(?:\.edit)?$} }
 
-# the functions of a source: each with its name, and where its text and its body begin and end
+# the functions of a source: each with its name, and where its text, with its attributes, and its
+# body begin and end. A method's name has its type before it, and of a trait's method the trait's
+# too: TYPE/NAME, TYPETRAIT/NAME
 sub functions {
     my ($source) = @_;
     my @functions;
-    while ($source =~ /^(?:pub(?:\(crate\))? )?(?:extern "C" )?fn (\w+).*?(?<=[ \n])\{\n(.*?)^\}$/msg) {
+    while ($source =~ /^(?:#\[[^\n]*\]\n)*(?:pub(?:\(crate\))? )?(?:extern "C" )?fn (\w+).*?(?<=[ \n])\{\n(.*?)^\}$/msg) {
         push @functions, { name => $1, begin => $-[0], from => $-[2], to => $+[2] };
+    }
+    while ($source =~ /^impl(?:<[^\n]*?>)? (?:(\w+)(?:<[^\n]*>)? for )?(\w+)[^\n]*\{\n(.*?)^\}$/msg) {
+        my ($owner, $start, $block) = ($2 . ($1 // ""), $-[3], $3);
+        while ($block =~ /^    (?:pub(?:\(crate\))? )?fn (\w+).*?(?<=[ \n])\{\n(.*?)^    \}$/msg) {
+            push @functions, { name => "$owner/$1", begin => $start + $-[0], from => $start + $-[2], to => $start + $+[2] };
+        }
+    }
+    # what a static holds is what the function that lends it gives
+    while ($source =~ /^static (\w+): [^;]*;[^;]*;$/msg) {
+        my ($static, $from, $to) = ($1, $-[0], $+[0]);
+        my ($lends) = grep { substr($source, $_->{from}, $_->{to} - $_->{from}) =~ /^\s*&$static\s*$/ } @functions;
+        push @functions, { name => $lends->{name}, begin => $from, from => $from, to => $to, static => 1 } if $lends;
     }
     return @functions;
 }
@@ -36,14 +50,15 @@ sub functions {
 sub module { my ($file) = @_; return $file =~ m{^src/(\w+)\.rt$} ? $1 =~ /^(?:lib|main)$/ ? "" : "$1/" : undef }
 
 # the function in whose body a text stands, as MODULE/NAME ('NAME' at the root of a crate); none for
-# a signature, a contract, a constant or a type
+# a signature, a contract, a constant or a type. A static is a constant, but where wrong versions of
+# several functions stand together: there it is of the function that lends it
 sub body {
-    my ($crate, $file, $old) = @_;
+    my ($crate, $file, $old, $shared) = @_;
     my $module = module($file) // return undef;
     my $source = text("$crate/$file") // return undef;
     my $at = index $source, $old;
     return undef if $at < 0;
-    for (functions($source)) { return "$module$_->{name}" if $_->{from} <= $at && $at + length($old) <= $_->{to} }
+    for (grep { $shared || !$_->{static} } functions($source)) { return "$module$_->{name}" if $_->{from} <= $at && $at + length($old) <= $_->{to} }
     return undef;
 }
 

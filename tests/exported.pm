@@ -28,8 +28,8 @@ my $braced = qr/\{((?:[^{}]++|(?<inner>\{(?:[^{}]++|(?&inner))*\}))*)\}/;
 # result), whether C can call it, and what of its clauses is not read; none if it is not there
 sub function {
     my ($source, $name) = @_;
-    my ($before, $public, $given, $head) = $source =~ /^((?:#\[.*\]\n)*)pub ((?:unsafe )?(?:extern "C" )?)fn $name\(([^)]*)\)(.*?)^\{\n/ms or return undef;
-    my @parameters = map { [/^\s*(\w+): (.*?)\s*$/s] } grep { /\S/ } split /,\s*/, $given;
+    my ($before, $public, $given, $head) = $source =~ /^((?:#\[.*\]\n)*)pub ((?:unsafe )?(?:extern "C" )?)fn $name(?:<[^()]*>)?\(([^)]*)\)(.*?)^\{\n/ms or return undef;
+    my @parameters = map { [/^\s*(\w+): (.*?)\s*$/s] } grep { /\S/ } split /,\s*(?![^<]*>)/, $given;
     my ($result) = $head =~ /^ -> ([^\n]*?)\s*$/m;
     my @contract;
     while ($head =~ /^ +ensures(?: \w+)? $braced$/mg) { push @contract, plain($1) }

@@ -1,19 +1,16 @@
 -- The readings of the code's answers are injective: an answer is known by its number and place, or
--- its value (`told-injective`, `refused_by-injective`, `filled-injective`, `checked-injective`). And
+-- its value (`told-injective`, `refused_by-injective`, `answered-injective`, `checked-injective`). And
 -- a refusal's number is at most 7, so that it is one digit (`told_below`, `number-below`).
 use mathlib.Core.Path.{◌≡◌, refl, sym, ◌∙◌, ap}
 use mathlib.Core.List.{[], ◌∷◌}
 use Prim.Native.Nat.{ℕ, ◌-◌, ◌≤◌}
 use native.Mathlib.Omega.{arith}
 use lib.ListN.{get_or}
-use Rattle.answers.specs.Answers.{told, refused_by, checked, filled}
+use Rattle.std.specs.Prelude.{Result, Ok, Err}
+use Rattle.answers.specs.Answers.{told, refused_by, checked, answered}
 use Rattle.answers.specs.declared.refusal.Refusal.{Refusal}
 use Rattle.answers.specs.declared.refusal.Refusal.TheVariants.{OverLimit, BadCodePoint, NoRoom, NoSyllable, NoName, NoRecord, BadLayout}
 use Rattle.answers.specs.declared.refusal.Told.{Told}
-use Rattle.answers.specs.declared.answer.Checked.{Checked}
-use Rattle.answers.specs.declared.answer.Checked.TheVariants.{Passed, Refused as CheckRefused}
-use Rattle.answers.specs.declared.answer.Filled.{Filled}
-use Rattle.answers.specs.declared.answer.Filled.TheVariants.{Done, Refused}
 
 -- the refusal of a number and a place
 abbrev untold : ℕ → ℕ → Refusal
@@ -51,14 +48,14 @@ module _ {Value : Type 0} where
   pub refused_by-injective : (r s : Refusal) → refused_by {Value = Value} r ≡ refused_by s → r ≡ s
   refused_by-injective r s e = told-injective r s (cc) (cc)
 
-pub filled-injective : (a b : Filled) → filled a ≡ filled b → a ≡ b
-filled-injective (Done m) (Done n) e = cc
-filled-injective (Done m) (Refused s) e = cc
-filled-injective (Refused r) (Done n) e = cc
-filled-injective (Refused r) (Refused s) e = ap Refused (refused_by-injective r s e)
+  pub answered-injective : (a b : Result Value Refusal) → answered a ≡ answered b → a ≡ b
+  answered-injective (Ok v) (Ok w) e = cc
+  answered-injective (Ok v) (Err s) e = cc
+  answered-injective (Err r) (Ok w) e = cc
+  answered-injective (Err r) (Err s) e = ap Err (refused_by-injective r s e)
 
-pub checked-injective : (a b : Checked) → checked a ≡ checked b → a ≡ b
-checked-injective Passed Passed e = refl
-checked-injective Passed (CheckRefused s) e = cc
-checked-injective (CheckRefused r) Passed e = cc
-checked-injective (CheckRefused r) (CheckRefused s) e = ap CheckRefused (told-injective r s (cc) (cc))
+pub checked-injective : (a b : Result (Unit {0}) Refusal) → checked a ≡ checked b → a ≡ b
+checked-injective (Ok nothing) (Ok none) e = refl
+checked-injective (Ok nothing) (Err s) e = cc
+checked-injective (Err r) (Ok nothing) e = cc
+checked-injective (Err r) (Err s) e = ap Err (told-injective r s (cc) (cc))

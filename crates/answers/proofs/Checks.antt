@@ -14,7 +14,7 @@ use Rattle.laws.specs.Ranges.{within}
 use Rattle.laws.proofs.Bools.{test, or_left, or_right}
 use Rattle.laws.proofs.Lists.{all-at, first-none, none_first}
 use Rattle.laws.proofs.Ranges.{within-yes, within-below, within-above, within-not}
-use Rattle.answers.specs.Checks.{passes, refuses, over_limit, bad, first_bad, bad_code_point, no_room, lacking, takes_text, takes_units}
+use Rattle.answers.specs.Checks.{Check, passes, refuses, over_limit, bad, first_bad, bad_code_point, no_room, takes_text, takes_units}
 use Rattle.answers.proofs.Orders.{passes-refuses, order-first, passes-false}
 
 -- ---- bad, by the ranges
@@ -75,37 +75,14 @@ pub no-room-passes : (room needed : ℕ) → needed ≤ room → no_room room ne
 unfolding no_room
 no-room-passes room needed h = simp (le-ltb room needed h)
 
--- ---- lacking: n is what is found to be lacking
+-- back: where the check of the room passes there is room
+pub no-room-kept : (room needed : ℕ) → no_room room needed ≡ passes → needed ≤ room
+unfolding no_room
+no-room-kept room needed e = ltb-false room needed (passes-false (ltb room needed) 3 needed e)
 
-module _ (room needed : ℕ) where
-  pub lacking-none : needed ≤ room → 0 ≡ lacking room needed
-  unfolding lacking
-  lacking-none h = simp (le-ltb room needed h)
-
-  pub lacking-all : room < needed → needed ≡ lacking room needed
-  unfolding lacking
-  lacking-all h = simp (lt-ltb room needed h)
-
-  -- n is the length needed, as the code counted it, and k what it then found to be lacking
-  pub lacking-counted : {n k : ℕ} → n ≡ needed → k ≡ lacking room n → k ≡ lacking room needed
-  lacking-counted e h = h ∙ ap (lacking room) e
-
-  -- back, where n was found to be lacking: it is nothing and there is room, or it is the length
-  -- needed
-  module _ {n : ℕ} (found : n ≡ lacking room needed) where
-    pub lacking-room : n ≡ 0 → needed ≤ room
-    lacking-room h =
-        test (ltb room needed) (λ e. omega (arith, lacking-all (ltb-true room needed e), ltb-true room needed e)) (λ e. ltb-false room needed e)
-
-    pub lacking-size : (n ≡ 0 → ⊥) → n ≡ needed
-    lacking-size h =
-        test (ltb room needed) (λ e. found ∙ sym (lacking-all (ltb-true room needed e)))
-        (λ e. absurd (h (found ∙ sym (lacking-none (ltb-false room needed e)))))
-
-    pub lacking-less : (n ≡ 0 → ⊥) → room < n
-    lacking-less h =
-        test (ltb room needed) (λ e. omega (arith, lacking-size h, ltb-true room needed e))
-        (λ e. absurd (h (found ∙ sym (lacking-none (ltb-false room needed e)))))
+-- n is the length needed, as the code counted it
+pub no-room-counted : (room needed : ℕ) {n : ℕ} {check : Check} → n ≡ needed → check ≡ no_room room n → check ≡ no_room room needed
+no-room-counted room needed e h = h ∙ ap (no_room room) e
 
 -- ---- a text: 1, then 2; b is its first bad code point
 

@@ -10,18 +10,14 @@ use native.Mathlib.Omega.{arith}
 use lib.ListN.{length, take, drop}
 use lib.Seq.{take-append_seam}
 use Rattle.laws.specs.Writing.{front, Fronts}
-use Rattle.answers.specs.Checks.{Check, passes, refuses, no_room, bad, bad_code_point, lacking, takes_text}
+use Rattle.answers.specs.Checks.{Check, passes, refuses, no_room, bad, bad_code_point, takes_text}
 use Rattle.answers.specs.Verdicts.{Verdict, done, refused, verdict, after, fits, Fills}
 use Rattle.answers.specs.Answers.{checked, Makes}
+use Rattle.std.specs.Prelude.{Result, Ok, Err}
 use Rattle.answers.specs.declared.refusal.Refusal.{Refusal}
-use Rattle.answers.specs.declared.refusal.Refusal.TheVariants.{NoRoom}
-use Rattle.answers.specs.declared.answer.Checked.{Checked}
-use Rattle.answers.specs.declared.answer.Checked.TheVariants.{Passed, Refused as CheckRefused}
-use Rattle.answers.specs.declared.answer.Filled.{Filled}
-use Rattle.answers.specs.declared.answer.Filled.TheVariants.{Done, Refused}
-use Rattle.answers.proofs.Answers.{filled-injective}
+use Rattle.answers.proofs.Answers.{answered-injective}
 use Rattle.answers.proofs.Orders.{order-first}
-use Rattle.answers.proofs.Checks.{code-bad, code-good, no-room-refuses, no-room-passes, lacking-size, lacking-less, lacking-room}
+use Rattle.answers.proofs.Checks.{code-bad, code-good, no-room-refuses, no-room-passes, no-room-kept}
 
 -- ---- a call that takes one code point: b is what the test for a bad one answered
 
@@ -42,6 +38,11 @@ module _ {A Value : Type 0} {before : Check} {whole out : List A} {value : Value
   -- taken, but there is no room
   pub refused-room : before ≡ passes → {needed : ℕ} → needed ≡ length whole → length out < needed → Fills before whole value out (refused 3 needed) out
   refused-room e n h = rw (e, n) (record { answers = simp (no-room-refuses _ _ (rw n at h)); leaves = simp (no-room-refuses _ _ (rw n at h)) })
+
+  -- the same, where the check of the room refuses
+  pub refused-lacking : before ≡ passes → {number place : ℕ} → no_room (length out) (length whole) ≡ refuses number place
+      → Fills before whole value out (refused number place) out
+  refused-lacking e q = rw e (record { answers = simp q; leaves = simp q })
 
   -- done
   pub filled-whole : before ≡ passes → length whole ≤ length out → {out' : List A} → out' ≡ front whole out → Fills before whole value out (done value) out'
@@ -72,7 +73,7 @@ pub fills-front : {A Value : Type 0} {before : Check} {whole out : List A} {valu
 fills-front {whole = whole} {out = out} f e = rw (e, (fills-done f).2) (take-append_seam whole (drop (length whole) out))
 
 -- the checks passed
-pub checks-passed : {v : Checked} {before : Check} → checked v ≡ before → v ≡ Passed → before ≡ passes
+pub checks-passed : {v : Result (Unit {0}) Refusal} {before : Check} → checked v ≡ before → v ≡ Ok tt → before ≡ passes
 checks-passed e q = sym e ∙ ap checked q
 
 -- ---- a call that makes of a text another:
@@ -80,27 +81,26 @@ checks-passed e q = sym e ∙ ap checked q
 
 module _ (make : List ℕ → List ℕ) {text out : List ℕ} where
   -- v is what the checks said
-  pub makes-refused : {v : Checked} {r : Refusal} → checked v ≡ takes_text text → v ≡ CheckRefused r → Makes make text out (Refused r) out
+  pub makes-refused : {v : Result (Unit {0}) Refusal} {r : Refusal} → checked v ≡ takes_text text → v ≡ Err r → Makes make text out (Err r) out
   makes-refused e q = record { fills = refused-before (sym e ∙ ap checked q) }
 
-  -- n is what is found to be lacking
-  module _ (taken : takes_text text ≡ passes) {n : ℕ} (found : n ≡ lacking (length out) (length (make text))) where
-    pub makes-lacking : (n ≡ 0 → ⊥) → Makes make text out (Refused (NoRoom n)) out
-    makes-lacking h =
-        record { fills = refused-room taken (lacking-size (length out) (length (make text)) found h) (lacking-less (length out) (length (make text)) found h) }
+  -- v is what the check of the room said
+  module _ (taken : takes_text text ≡ passes) {v : Result (Unit {0}) Refusal} (found : checked v ≡ no_room (length out) (length (make text))) where
+    pub makes-lacking : {r : Refusal} → v ≡ Err r → Makes make text out (Err r) out
+    makes-lacking q = record { fills = refused-lacking taken (sym found ∙ ap checked q) }
 
-    pub makes-done : n ≡ 0 → {k : ℕ} {out' : List ℕ} → Fronts (make text) out k out' → Makes make text out (Done k) out'
+    pub makes-done : v ≡ Ok tt → {k : ℕ} {out' : List ℕ} → Fronts (make text) out k out' → Makes make text out (Ok k) out'
     makes-done e w =
-        record { fills = rw w.size (filled-whole taken (lacking-room (length out) (length (make text)) found e) w.holds) }
+        record { fills = rw w.size (filled-whole taken (no-room-kept (length out) (length (make text)) (checks-passed found e)) w.holds) }
 
 -- any two results are equal; and so are those of two texts that pass the same checks and of which
 -- the same is made
-pub makes-same : (make : List ℕ → List ℕ) {x y : List ℕ} (out : List ℕ) → takes_text x ≡ takes_text y → make x ≡ make y → {r s : Filled} {o p : List ℕ}
+pub makes-same : (make : List ℕ → List ℕ) {x y : List ℕ} (out : List ℕ) → takes_text x ≡ takes_text y → make x ≡ make y → {r s : Result ℕ Refusal} {o p : List ℕ}
     → Makes make x out r o → Makes make y out s p → (r ≡ s) × (o ≡ p)
 makes-same make out e q f g =
     let h = fills-unique (rw (e, q) at f.fills) g.fills in
-    (filled-injective _ _ h.0, h.1)
+    (answered-injective _ _ h.0, h.1)
 
-pub makes-unique : (make : List ℕ → List ℕ) (text out : List ℕ) {r s : Filled} {o p : List ℕ} → Makes make text out r o → Makes make text out s p
+pub makes-unique : (make : List ℕ → List ℕ) (text out : List ℕ) {r s : Result ℕ Refusal} {o p : List ℕ} → Makes make text out r o → Makes make text out s p
     → (r ≡ s) × (o ≡ p)
 makes-unique make text out f g = makes-same make out refl refl f g

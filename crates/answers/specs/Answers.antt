@@ -1,16 +1,12 @@
 -- The code's refusals and answers read as the paper's numbers and values: document 01, the table of
 -- 'Refusal numbers', case by case.
-use Rattle.std.specs.Prelude.{List, [], ◌∷◌, ◌++◌, ℕ, ◌+◌, length}
+use Rattle.std.specs.Prelude.{List, [], ◌∷◌, ◌++◌, ℕ, ◌+◌, length, Result, Ok, Err}
 use Rattle.laws.specs.Strings.{ascii}
 use Rattle.answers.specs.Checks.{Check, passes, refuses, takes_text}
 use Rattle.answers.specs.Verdicts.{Verdict, done, refused, Fills}
 use Rattle.answers.specs.declared.refusal.Refusal.{Refusal}
 use Rattle.answers.specs.declared.refusal.Refusal.TheVariants.{OverLimit, BadCodePoint, NoRoom, NoSyllable, NoName, NoRecord, BadLayout}
 use Rattle.answers.specs.declared.refusal.Told.{Told}
-use Rattle.answers.specs.declared.answer.Checked.{Checked}
-use Rattle.answers.specs.declared.answer.Checked.TheVariants.{Passed, Refused as CheckRefused}
-use Rattle.answers.specs.declared.answer.Filled.{Filled}
-use Rattle.answers.specs.declared.answer.Filled.TheVariants.{Done, Refused}
 
 -- the number and the place of each refusal: the only match on them
 abbrev pub told : Refusal → Told
@@ -31,16 +27,16 @@ abbrev pub refused_by : {Value : Type 0} → Refusal → Verdict Value
 refused_by r = refused (told r).number (told r).place
 
 -- what the checks say
-abbrev pub checked : Checked → Check
-checked Passed = passes
-checked (CheckRefused r) = refuses (told r).number (told r).place
+abbrev pub checked : Result (Unit {0}) Refusal → Check
+checked (Ok nothing) = passes
+checked (Err r) = refuses (told r).number (told r).place
 
--- the answer of a call that fills a buffer: the value is the length
-abbrev pub filled : Filled → Verdict ℕ
-filled (Done size) = done size
-filled (Refused r) = refused_by r
+-- the answer of a call that may be refused: what it answers, or its refusal
+abbrev pub answered : {Value : Type 0} → Result Value Refusal → Verdict Value
+answered (Ok value) = done value
+answered (Err r) = refused_by r
 
 -- THE CONTRACT of a call that makes of a text of code points another, `make text`: 1 and 2, then 3;
 -- the value is its length
-pub record Makes (make : List ℕ → List ℕ) (text out : List ℕ) (r : Filled) (out' : List ℕ) : Type 0 where
-  pub fills : Fills (takes_text text) (make text) (length (make text)) out (filled r) out'
+pub record Makes (make : List ℕ → List ℕ) (text out : List ℕ) (r : Result ℕ Refusal) (out' : List ℕ) : Type 0 where
+  pub fills : Fills (takes_text text) (make text) (length (make text)) out (answered r) out'

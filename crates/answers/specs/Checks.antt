@@ -37,11 +37,6 @@ bad_code_point text = cond (ltb (first_bad text) (length text)) (refuses 2 (firs
 unfoldable pub no_room : ℕ → ℕ → Check
 no_room room needed = cond (ltb room needed) (refuses 3 needed) passes
 
--- 0 if a buffer has room for the length needed, else that length: what a call finds out before it
--- writes
-unfoldable pub lacking : ℕ → ℕ → ℕ
-lacking room needed = cond (ltb room needed) needed 0
-
 -- what precedes 3 if a text of code points is taken: 1, then 2
 unfoldable pub takes_text : List ℕ → Check
 takes_text text = in_order (over_limit 16384 (length text) ∷ bad_code_point text ∷ [])

@@ -1,9 +1,9 @@
-// The checks of a text: the limit, and bad code points (document 01, 'Refusal numbers').
+// The checks of a text, the limit and bad code points, and of the room in a lent buffer (document
+// 01, 'Refusal numbers').
 ghost use Rattle.std.specs.Prelude.{◌≡◌};
-ghost use Rattle.answers.specs.Checks.{bad, first_bad, takes_bytes, takes_text, takes_units};
+ghost use Rattle.answers.specs.Checks.{bad, first_bad, no_room, takes_bytes, takes_text, takes_units};
 ghost use Rattle.answers.specs.Answers.{checked};
 
-use crate::answer::Checked;
 use crate::refusal::Refusal;
 
 // Over 10FFFF, or a surrogate.
@@ -21,49 +21,54 @@ pub fn is_bad(code: u32) -> bool
 pub fn first_bad(text: &[u32]) -> usize
     ensures { result ≡ first_bad text.now }
 {
-    let mut i = 0;
-    while i < text.len() {
-        if is_bad(text[i]) {
-            return i;
-        }
-        i += 1;
-    }
-    i
+    text.iter()
+        .position(|code| is_bad(*code))
+        .unwrap_or(text.len())
 }
 
 // The most code points, bytes or 16-bit units that a call takes.
 pub const LIMIT: usize = 16384;
 
 // The checks that a text of code points has to pass before anything is made of it: 1, then 2.
-pub fn check_text(text: &[u32]) -> Checked
+pub fn check_text(text: &[u32]) -> Result<(), Refusal>
     ensures { checked result ≡ takes_text text.now }
 {
     if LIMIT < text.len() {
-        return Checked::Refused(Refusal::OverLimit(LIMIT));
+        return Err(Refusal::OverLimit(LIMIT));
     }
     let bad = first_bad(text);
     if bad < text.len() {
-        return Checked::Refused(Refusal::BadCodePoint(bad));
+        return Err(Refusal::BadCodePoint(bad));
     }
-    Checked::Passed
+    Ok(())
 }
 
 // The check that a text of bytes has to pass: 1.
-pub fn check_bytes(bytes: &[u8]) -> Checked
+pub fn check_bytes(bytes: &[u8]) -> Result<(), Refusal>
     ensures { checked result ≡ takes_bytes bytes.now }
 {
     if LIMIT < bytes.len() {
-        return Checked::Refused(Refusal::OverLimit(LIMIT));
+        return Err(Refusal::OverLimit(LIMIT));
     }
-    Checked::Passed
+    Ok(())
 }
 
 // The check that a text of 16-bit code units has to pass: 1.
-pub fn check_units(units: &[u16]) -> Checked
+pub fn check_units(units: &[u16]) -> Result<(), Refusal>
     ensures { checked result ≡ takes_units units.now }
 {
     if LIMIT < units.len() {
-        return Checked::Refused(Refusal::OverLimit(LIMIT));
+        return Err(Refusal::OverLimit(LIMIT));
     }
-    Checked::Passed
+    Ok(())
+}
+
+// The check that a lent buffer of so much room has to pass for an answer of the length needed: 3.
+pub fn check_room(room: usize, needed: usize) -> Result<(), Refusal>
+    ensures { checked result ≡ no_room room needed }
+{
+    if room < needed {
+        return Err(Refusal::NoRoom(needed));
+    }
+    Ok(())
 }

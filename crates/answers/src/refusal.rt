@@ -4,7 +4,7 @@ ghost use Rattle.std.specs.Prelude.{◌≡◌, length};
 ghost use Rattle.answers.specs.Answers.{told, refused_line};
 
 // A case for each number of the table, 1 to 7, with its place if the place varies.
-#[derive(Clone, Copy)]
+#[derive(Clone, Copy, Debug, PartialEq, Eq)]
 pub enum Refusal {
     // The input is over the limit, which is the place.
     OverLimit(usize),
@@ -23,7 +23,7 @@ pub enum Refusal {
 }
 
 // A refusal as the table's number and place.
-#[derive(Clone, Copy)]
+#[derive(Clone, Copy, Debug, PartialEq, Eq)]
 pub struct Told {
     pub number: u32,
     pub place: usize,

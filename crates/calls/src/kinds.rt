@@ -1,64 +1,50 @@
-// Which call each kind is (docs/CALLS.md), by what is lent. A kind that is not listed does not come
-// here: the head was found good.
+// Which call each kind is (docs/CALLS.md).
+use crate::heads::{Call, Kind};
 use crate::{labelled, replies};
-use answers::Filled;
 use wire::{Head, Reply};
 
-// The calls from text to text.
-fn formed(kind: u32, text: &[u32], lent: &mut [u32]) -> Filled {
-    match kind {
-        3 => letters::full_parts(text, lent),
-        4 => joining::join(text, lent),
-        5 => clusters::simple_form(text, lent),
-        6 => clusters::gathered_form(text, lent),
-        _ => fillers::turn(text, lent),
-    }
+// The elements of a and of b, which come in as one list.
+fn rank(head: Head, both: &[u32]) -> Reply {
+    let end = wire::at_most(both.len(), head.first);
+    replies::ranked(ranking::rank(&both[..end], &both[end..]))
 }
 
-// The kinds that lend code points.
-fn to_codes(head: Head, text: &[u32], bytes: &[u8], lent: &mut [u32]) -> Reply {
-    wire::fill(lent);
-    let end = wire::at_most(text.len(), head.first);
-    let kind = head.kind;
-    match kind {
-        1 => replies::sorted(letters::sorter(head.x)),
-        2 => replies::stepped(letters::one_step(head.x)),
-        10 => replies::read(utf8::read_text(bytes, lent)),
-        13 => replies::ranked(ranking::rank(&text[..end], &text[end..])),
-        18 => labelled::judged(sorting::order(bytes, lent)),
-        _ => wire::filled(formed(kind, text, lent)),
-    }
+fn rank_bytes(head: Head, both: &[u8]) -> Reply {
+    let end = wire::at_most(both.len(), head.first);
+    replies::ranked(ranking::rank_bytes(&both[..end], &both[end..]))
 }
 
-// The kinds that lend bytes.
-fn to_bytes(head: Head, text: &[u32], bytes: &[u8], lent: &mut [u8]) -> Reply {
-    wire::fill_bytes(lent);
-    let end = wire::at_most(bytes.len(), head.first);
-    let kind = head.kind;
-    match kind {
-        8 => wire::filled(names::name(head.x, lent)),
-        9 => replies::named(names::read_name(bytes)),
-        11 => wire::filled(utf8::write_text(text, lent)),
-        12 => replies::read(mending::mend(bytes, lent)),
-        14 => replies::ranked(ranking::rank_bytes(&bytes[..end], &bytes[end..])),
-        15 => labelled::fresh(lent),
-        16 => labelled::record(bytes, head.x as usize, lent),
-        17 => labelled::judged(labels::read_image(bytes)),
-        _ => labelled::write(head, bytes, lent),
-    }
-}
-
-// Makes the call with what came in: its code points and its bytes.
+// Makes the call with what came in, its code points and its bytes, and with what is lent: code
+// points or bytes, of which the others are none.
 pub(crate) fn answer(
-    head: Head,
+    call: Call,
     text: &[u32],
     bytes: &[u8],
     codes: &mut [u32],
     lent: &mut [u8],
 ) -> Reply {
-    let kind = head.kind;
-    match kind {
-        1..=7 | 10 | 13 | 18 => to_codes(head, text, bytes, codes),
-        _ => to_bytes(head, text, bytes, lent),
+    wire::fill(codes);
+    wire::fill(lent);
+    let head = call.head;
+    match call.kind {
+        Kind::Sorter => replies::sorted(letters::sorter(head.x)),
+        Kind::OneStep => replies::stepped(letters::one_step(head.x)),
+        Kind::FullParts => wire::filled(letters::full_parts(text, codes)),
+        Kind::Join => wire::filled(joining::join(text, codes)),
+        Kind::SimpleForm => wire::filled(clusters::simple_form(text, codes)),
+        Kind::GatheredForm => wire::filled(clusters::gathered_form(text, codes)),
+        Kind::Turn => wire::filled(fillers::turn(text, codes)),
+        Kind::Name => wire::filled(names::name(head.x, lent)),
+        Kind::ReadName => replies::named(names::read_name(bytes)),
+        Kind::ReadText => replies::read(utf8::read_text(bytes, codes)),
+        Kind::WriteText => wire::filled(utf8::write_text(text, lent)),
+        Kind::Mend => replies::read(mending::mend(bytes, lent)),
+        Kind::Rank => rank(head, text),
+        Kind::RankBytes => rank_bytes(head, bytes),
+        Kind::Fresh => labelled::fresh(lent),
+        Kind::ReadRecord => labelled::record(bytes, head.x as usize, lent),
+        Kind::ReadImage => labelled::judged(labels::read_image(bytes)),
+        Kind::Order => labelled::judged(sorting::order(bytes, codes)),
+        Kind::WriteRecord => labelled::write(head, bytes, lent),
     }
 }

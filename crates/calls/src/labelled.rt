@@ -1,7 +1,6 @@
 // The kinds of call on the label file: 15 a fresh record, 16 reading one record, 19 writing a
 // record, and the answers of 17 reading a whole image and 18 the order of its records.
-use answers::Checked;
-use labels::{Form, Found, Judged};
+use labels::{Form, ImageRefusal};
 use wire::{Head, Reply};
 
 // Copies bytes to the front of what is lent: as many as there are, or as it has room for.
@@ -17,22 +16,21 @@ pub(crate) fn fresh(lent: &mut [u8]) -> Reply {
 }
 
 pub(crate) fn record(image: &[u8], number: usize, lent: &mut [u8]) -> Reply {
-    let answer = labels::read_record(image, number, lent);
-    match answer {
-        Found::Record(entry) => {
+    match labels::read_record(image, number, lent) {
+        Ok(entry) => {
             let length = wire::counted(entry.length, 0);
             wire::done(length.value, entry.object, entry.berth as u32)
         }
-        Found::Refused(refusal) => wire::refused(refusal),
+        Err(refusal) => wire::refused(refusal),
     }
 }
 
 // Refusal 7 of a whole image has the record too, which `counted` makes a number of 32 bits.
-pub(crate) fn judged(answer: Judged) -> Reply {
+pub(crate) fn judged(answer: Result<usize, ImageRefusal>) -> Reply {
     match answer {
-        Judged::Records(count) => wire::counted(count, 0),
-        Judged::Refused(refusal) => wire::refused(refusal),
-        Judged::BadRecord(number, byte) => {
+        Ok(count) => wire::counted(count, 0),
+        Err(ImageRefusal::Refused(refusal)) => wire::refused(refusal),
+        Err(ImageRefusal::BadRecord(number, byte)) => {
             let places = wire::counted(byte, number);
             Reply {
                 refusal: 7,
@@ -65,7 +63,7 @@ pub(crate) fn write(head: Head, both: &[u8], lent: &mut [u8]) -> Reply {
         form_of(head.w),
     );
     match answer {
-        Checked::Passed => wire::done(0, 0, 0),
-        Checked::Refused(refusal) => wire::refused(refusal),
+        Ok(()) => wire::done(0, 0, 0),
+        Err(refusal) => wire::refused(refusal),
     }
 }

@@ -1,8 +1,8 @@
 // The answers of the calls as four numbers. Those on the label file are in `labelled`.
-use encodings::Read;
-use letters::{Make, Parts, Sort, Sorted, Stepped};
-use names::Named;
-use ranking::Ranked;
+use answers::Refusal;
+use encodings::Counted;
+use letters::{Make, Parts, Sort};
+use std::cmp::Ordering;
 use wire::Reply;
 
 // The one number for a simple letter, and the other for a cluster.
@@ -30,40 +30,38 @@ fn number_of(sort: Sort) -> u32 {
     }
 }
 
-pub(crate) fn sorted(answer: Sorted) -> Reply {
+pub(crate) fn sorted(answer: Result<Sort, Refusal>) -> Reply {
     match answer {
-        Sorted::Is(sort) => wire::done(number_of(sort), 0, 0),
-        Sorted::Refused(refusal) => wire::refused(refusal),
+        Ok(sort) => wire::done(number_of(sort), 0, 0),
+        Err(refusal) => wire::refused(refusal),
     }
 }
 
-pub(crate) fn stepped(answer: Stepped) -> Reply {
+pub(crate) fn stepped(answer: Result<Parts, Refusal>) -> Reply {
     match answer {
-        Stepped::Into(parts) => match parts {
-            Parts::One(only) => wire::done(1, only, 0),
-            Parts::Two(first, second) => wire::done(2, first, second),
-        },
-        Stepped::Refused(refusal) => wire::refused(refusal),
+        Ok(Parts::One(only)) => wire::done(1, only, 0),
+        Ok(Parts::Two(first, second)) => wire::done(2, first, second),
+        Err(refusal) => wire::refused(refusal),
     }
 }
 
-pub(crate) fn named(answer: Named) -> Reply {
+pub(crate) fn named(answer: Result<u32, Refusal>) -> Reply {
     match answer {
-        Named::Syllable(code) => wire::done(code, 0, 0),
-        Named::Refused(refusal) => wire::refused(refusal),
+        Ok(code) => wire::done(code, 0, 0),
+        Err(refusal) => wire::refused(refusal),
     }
 }
 
-pub(crate) fn read(answer: Read) -> Reply {
+pub(crate) fn read(answer: Result<Counted, Refusal>) -> Reply {
     match answer {
-        Read::Done(found) => wire::counted(found.length, found.ills),
-        Read::Refused(refusal) => wire::refused(refusal),
+        Ok(found) => wire::counted(found.length, found.ills),
+        Err(refusal) => wire::refused(refusal),
     }
 }
 
-pub(crate) fn ranked(answer: Ranked) -> Reply {
+pub(crate) fn ranked(answer: Result<Ordering, Refusal>) -> Reply {
     match answer {
-        Ranked::Stands(order) => wire::done(ranking::number_of(order), 0, 0),
-        Ranked::Refused(refusal) => wire::refused(refusal),
+        Ok(order) => wire::done(ranking::number_of(order), 0, 0),
+        Err(refusal) => wire::refused(refusal),
     }
 }

@@ -4,17 +4,18 @@
 -- `three-listed`, `listed-three`), and none has the code 0; what is nowhere, and what is 0, is in
 -- no cluster, and plain text begins none; which span covers the clusters that begin with some
 -- letters (`covers-when`, `covers_more`, `covers-none`); the search, in a range of codes and in
--- both parts of a span (`found_first`, `found-second`).
+-- both parts of a span (`found-either`).
 use mathlib.Core.Path.{◌≡◌, refl, sym, ◌∙◌, ap}
-use mathlib.Core.Bool.{Bool, true, false, ◌&&◌, ◌||◌, true≢false}
+use mathlib.Core.Bool.{Bool, true, ◌&&◌, ◌||◌, true≢false}
 use mathlib.Core.Logic.{inl, inr, ⊎_elim}
 use mathlib.Core.Option.{Option, none, some, none-ne-some, some-injective}
 use mathlib.Core.List.{List, [], ◌∷◌, ◌++◌, append_assoc}
-use Prim.Native.Nat.{ℕ, ◌+◌, ◌≤◌, ◌<◌}
+use Prim.Native.Nat.{ℕ, ◌≤◌, ◌<◌}
 use native.Mathlib.Omega.{arith}
 use lib.Dec.{T, eqb, eqb_refl, leb, ltb}
 use lib.ListN.{length, take}
-use borrow.Author.Tests.{eqb-true, eqb-false, leb-true, ltb-true}
+use borrow.Author.Tests.{eqb-true, leb-true, ltb-true}
+use Rattle.std.specs.Prelude.{Option as Answer, Some, None, MatchOption}
 use Rattle.laws.specs.Lists.{All, also}
 use Rattle.laws.proofs.Bools.{test, T_true, true-T, and_left, and_right}
 use Rattle.laws.proofs.Lists.{all_head, all_tail, all_map}
@@ -23,7 +24,8 @@ use Rattle.laws.proofs.Tables.{every}
 use Rattle.clusters.specs.Table.{Cluster, two, three, clusters, cluster_code, letters_in, letters_from, letters_of, has_row, nowhere, place_of}
 use Rattle.clusters.specs.Rows.{as_row, row_by, letters_by}
 use Rattle.clusters.specs.Gathering.{two_in, two_of, three_in, three_of}
-use Rattle.clusters.specs.Inner.{In, Letter, Covers, hit, miss, SearchedFrom, SearchedIn, or_zero}
+use Rattle.laws.specs.Options.{as_answer}
+use Rattle.clusters.specs.Inner.{In, Letter, Covers, hit, miss, SearchedFrom, SearchedIn}
 use Rattle.clusters.specs.declared.table.Row.{Row}
 use Rattle.clusters.specs.declared.gather.Span.{Span}
 use Rattle.clusters.proofs.Codes.{row-least}
@@ -261,38 +263,14 @@ two-low a b h = none-unless (two_of a b) (λ k e. omega (arith, listed-high k (t
 pub three-low : (a b d : ℕ) → a < 0x1100 → three_of a b d ≡ none
 three-low a b d h = none-unless (three_of a b d) (λ k e. omega (arith, listed-high k (three-listed a b d k e)))
 
-pub two-zero : (a b : ℕ) → b ≡ 0 → 0 ≡ or_zero (two_of a b)
-two-zero a b z = sym (ap or_zero (no-two {P = λ l. l ≡ 0} (λ c a b x e. listed-nonzero c e) a b z))
+pub two-zero : (a b : ℕ) → b ≡ 0 → None ≡ as_answer (two_of a b)
+two-zero a b z = sym (ap as_answer (no-two {P = λ l. l ≡ 0} (λ c a b x e. listed-nonzero c e) a b z))
 
-pub second-zero : (a b d : ℕ) → b ≡ 0 → 0 ≡ or_zero (three_of a b d)
-second-zero a b d z = sym (ap or_zero (no-three-second {P = λ l. l ≡ 0} (λ c a b x e. listed-nonzero c e) a b d z))
+pub second-zero : (a b d : ℕ) → b ≡ 0 → None ≡ as_answer (three_of a b d)
+second-zero a b d z = sym (ap as_answer (no-three-second {P = λ l. l ≡ 0} (λ c a b x e. listed-nonzero c e) a b d z))
 
-pub third-zero : (a b d : ℕ) → d ≡ 0 → 0 ≡ or_zero (three_of a b d)
-third-zero a b d z = sym (ap or_zero (no-three-third {P = λ l. l ≡ 0} (λ c a b x e. listed-nonzero c e) a b d z))
-
--- ---- what a look-up answers: r is the cluster's code, or 0 where there is none
-
-some_or : (o : Option ℕ) {r : ℕ} → r ≡ or_zero o → (r ≡ 0 → ⊥) → o ≡ some r
-some_or none e n = absurd (n e)
-some_or (some k) e n = ap some (sym e)
-
-module _ (a b : ℕ) {r : ℕ} (found : r ≡ or_zero (two_of a b)) where
-  pub two-some : (r ≡ 0 → ⊥) → two_of a b ≡ some r
-  two-some n = some_or (two_of a b) found n
-
-  pub two_none : r ≡ 0 → two_of a b ≡ none
-  two_none z =
-      none-unless (two_of a b)
-      (λ k e. let s : k ≡ 0 = sym (ap or_zero e) ∙ sym found ∙ z in omega (arith, listed-least k (two-listed a b k e), s))
-
-module _ (a b d : ℕ) {r : ℕ} (found : r ≡ or_zero (three_of a b d)) where
-  pub three-some : (r ≡ 0 → ⊥) → three_of a b d ≡ some r
-  three-some n = some_or (three_of a b d) found n
-
-  pub three-none : r ≡ 0 → three_of a b d ≡ none
-  three-none z =
-      none-unless (three_of a b d)
-      (λ k e. let s : k ≡ 0 = sym (ap or_zero e) ∙ sym found ∙ z in omega (arith, listed-least k (three-listed a b d k e), s))
+pub third-zero : (a b d : ℕ) → d ≡ 0 → None ≡ as_answer (three_of a b d)
+third-zero a b d z = sym (ap as_answer (no-three-third {P = λ l. l ≡ 0} (λ c a b x e. listed-nonzero c e) a b d z))
 
 -- ---- the spans
 
@@ -320,11 +298,9 @@ module _ (front : List ℕ) (l : ℕ) {span : Span} (covers : Covers front span)
 
 -- ---- the search
 
-abbrev pub same_row : Row → Row → Bool
-same_row x y = eqb x.first y.first && (eqb x.second y.second && eqb x.third y.third)
-
-same_row_lem : (x y : Row) → same_row x y ≡ true → x ≡ y
-same_row_lem x y e =
+-- rows that the code found equal
+pub same-row : (x y : Row) → eqb x.first y.first && (eqb x.second y.second && eqb x.third y.third) ≡ true → x ≡ y
+same-row x y e =
     let r = and_right (eqb x.first y.first) (eqb x.second y.second && eqb x.third y.third) e in
     rows (eqb-true _ _ (and_left (eqb x.first y.first) (eqb x.second y.second && eqb x.third y.third) e))
     (eqb-true _ _ (and_left (eqb x.second y.second) (eqb x.third y.third) r))
@@ -333,46 +309,22 @@ same_row_lem x y e =
     rows : {a b c d e f : ℕ} → a ≡ d → b ≡ e → c ≡ f → ◌≡◌ {A = Row} (record { first = a; second = b; third = c }) (record { first = d; second = e; third = f })
     rows p q s = rw (p, q, s)
 
-row-itself : (x : Row) → same_row x x ≡ true
-row-itself x =
-    simp (
-      eqb_same x.first,
-      eqb_same x.second,
-      eqb_same x.third,
-    )
-
 -- no code from low on, before n, has the row
 abbrev pub Missed : Row → ℕ → ℕ → Type 0
 Missed row low n = (k : ℕ) → low ≤ k → k < n → row_by k ≡ row → ⊥
 
-module _ (row : Row) (low c : ℕ) where
-  pub missed-none : low ≡ c → Missed row low c
-  missed-none e k l h = absurd (omega arith)
-
-  -- the row at c was read, and compared
-  module _ {read : Row} {answer : Bool} (is : read ≡ row_by c) (compared : answer ≡ same_row read row) where
-    pub missed_more : answer ≡ false → Missed row low c → Missed row low (c + 1)
-    missed_more n m k l h =
-        test (eqb k c) (λ e q. true≢false (sym (row-itself row) ∙ ap (λ (x : Row). same_row x row) (sym (is ∙ ap row_by (sym (eqb-true k c e)) ∙ q)) ∙ sym compared ∙ n))
-        (λ e. m k l (let d = eqb-false k c e in omega arith))
-
-    pub searched-hit : (high : ℕ) → answer ≡ true → SearchedFrom row low high c
-    searched-hit high t = hit (sym is ∙ same_row_lem read row (sym compared ∙ t))
-
-  pub searched-miss : (high : ℕ) → high ≤ c → Missed row low c → SearchedFrom row low high 0
-  searched-miss high h m = miss refl (λ k i. m k i.0 (omega (arith, i.1)))
+pub searched-miss : (row : Row) (low high : ℕ) {n : ℕ} → high ≤ n → Missed row low n → SearchedFrom row low high None
+searched-miss row low high h m = miss (λ k i. m k i.0 (omega (arith, i.1)))
 
 -- the two parts of a span: found in the first, or whatever is found in the second
-module _ {row : Row} {span : Span} {r : ℕ} where
-  pub found_first : (r ≡ 0 → ⊥) → SearchedFrom row span.low span.high r → SearchedIn row span r
-  found_first n (hit e) = hit e
-  found_first n (miss z m) = absurd (n z)
+module _ {row : Row} {span : Span} where
+  found-second : {r : Answer ℕ} → ((k : ℕ) → (span.low ≤ k) × (k < span.high) → row_by k ≡ row → ⊥) → SearchedFrom row span.outer span.end r → SearchedIn row span r
+  found-second n (hit e) = hit e
+  found-second n (miss m) = miss (λ k i. ⊎_elim (n k) (m k) i)
 
-  pub found-second : {q : ℕ} → q ≡ 0 → SearchedFrom row span.low span.high q → SearchedFrom row span.outer span.end r
-      → SearchedIn row span r
-  found-second z s (hit e) = hit e
-  found-second z (hit e) (miss w m) = hit (rw (w ∙ sym z) e)
-  found-second z (miss y n) (miss w m) = miss w (λ k i. ⊎_elim (n k) (m k) i)
+  pub found-either : {q r : Answer ℕ} → SearchedFrom row span.low span.high q → MatchOption q (SearchedFrom row span.outer span.end r) (λ k. r ≡ Some k) → SearchedIn row span r
+  found-either (hit e) is = rw is (hit e)
+  found-either (miss n) s = found-second n s
 
 -- a code with two letters or more has their row, and one that has their row has them
 module _ {a b : ℕ} {x : List ℕ} {row : Row} (by : letters_by row ≡ a ∷ b ∷ x) (padded : as_row (take 3 ((a ∷ b ∷ x) ++ (0 ∷ 0 ∷ []))) ≡ row) where
@@ -384,19 +336,19 @@ module _ {a b : ℕ} {x : List ℕ} {row : Row} (by : letters_by row ≡ a ∷ b
   row_listed c e = ap (λ (l : List ℕ). as_row (take 3 (l ++ (0 ∷ 0 ∷ [])))) e ∙ padded
 
 -- THE SEARCH FINDS THE CLUSTER of two letters, and of three
-module _ {a b r : ℕ} (second : b ≡ 0 → ⊥) where
-  pub two-found : {span : Span} → Covers (a ∷ b ∷ []) span → SearchedIn (record { first = a; second = b; third = 0 }) span r → r ≡ or_zero (two_of a b)
-  two-found covers (hit e) = sym (ap or_zero (listed-two a b r (row-letters (by_two _ second refl) refl r e)))
-  two-found covers (miss z m) = z ∙ sym (ap or_zero (none-unless (two_of a b) none-there))
+module _ {a b : ℕ} (second : b ≡ 0 → ⊥) where
+  pub two-found : {r : Answer ℕ} {span : Span} → Covers (a ∷ b ∷ []) span → SearchedIn (record { first = a; second = b; third = 0 }) span r → r ≡ as_answer (two_of a b)
+  two-found covers (hit {k} e) = sym (ap as_answer (listed-two a b k (row-letters (by_two _ second refl) refl k e)))
+  two-found covers (miss m) = sym (ap as_answer (none-unless (two_of a b) none-there))
     where
       none-there : (k : ℕ) → two_of a b ≡ some k → ⊥
       none-there k e =
           let l = two-listed a b k e in
           m k (covers k [] l (omega (arith, ap length l))).0 (row_listed (by_two _ second refl) refl k l)
 
-  pub three-found : {d : ℕ} {span : Span} → (d ≡ 0 → ⊥) → Covers (a ∷ b ∷ d ∷ []) span → SearchedIn (record { first = a; second = b; third = d }) span r → r ≡ or_zero (three_of a b d)
-  three-found {d} third covers (hit e) = sym (ap or_zero (listed-three a b d r (row-letters (by_three _ second third) refl r e)))
-  three-found {d} third covers (miss z m) = z ∙ sym (ap or_zero (none-unless (three_of a b d) none-there))
+  pub three-found : {r : Answer ℕ} {d : ℕ} {span : Span} → (d ≡ 0 → ⊥) → Covers (a ∷ b ∷ d ∷ []) span → SearchedIn (record { first = a; second = b; third = d }) span r → r ≡ as_answer (three_of a b d)
+  three-found {d} third covers (hit {k} e) = sym (ap as_answer (listed-three a b d k (row-letters (by_three _ second third) refl k e)))
+  three-found {d} third covers (miss m) = sym (ap as_answer (none-unless (three_of a b d) none-there))
     where
       none-there : (k : ℕ) → three_of a b d ≡ some k → ⊥
       none-there k e =

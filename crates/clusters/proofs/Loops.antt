@@ -26,9 +26,6 @@ use Rattle.clusters.proofs.GatheredForm.{gathered-coded}
 
 -- ---- the loops over a text
 
-pub start-state : {o : Open} → o ≡ NothingOpen → ◌≡◌ {A = Pending × Open} (Nothing, o) (Nothing, NothingOpen)
-start-state e = rw e
-
 pub filling-start : {whole left : List ℕ} (out : List ℕ) {k : ℕ} → left ≡ whole → k ≡ 0 → Filling whole left out out k
 filling-start out e z = rw z (filling-begin out e)
 

@@ -1,6 +1,6 @@
 -- The numbers of the two tables, and their rows by value. It has: rows one after the other
--- (`threes-at`), so that each number of a table unpacks to its row (`row-unpacked`); both tables as
--- the code puts them together (`both-rows`); a row as the code reads it (`row-packed`, `row_read`),
+-- (`threes-at`), so that each number of a table unpacks to its row (`row-unpacked`); both tables one
+-- after the other (`both-rows`); a row as the code reads it (`row-packed`, `row_read`),
 -- and where a code is alone (`row-alone`); the letters of a row by value (`by_one`, `by_two`,
 -- `by_three`), which are those of every number (`letters-by`).
 use mathlib.Core.Path.{◌≡◌, refl, sym, ◌∙◌, ap}
@@ -8,15 +8,14 @@ use mathlib.Core.Bool.{false}
 use mathlib.Core.List.{List, [], ◌∷◌, ◌++◌, append-nil}
 use Prim.Native.Nat.{ℕ, zero, suc, ◌+◌, ◌*◌, ◌/◌, ◌%◌, ◌≤◌, ◌<◌}
 use native.Mathlib.Omega.{arith}
-use lib.Dec.{eqb}
-use lib.ListN.{length, get_or, take, drop, length-append, length-take, length-drop, drop_of_length-le}
-use lib.Seq.{length-take-le, take_at, drop_at, drop-append-add}
-use borrow.Author.Tests.{eqb-true, eqb-false, ne_eqb}
+use lib.ListN.{length, get_or, get_or-append, take, drop, length-append, length-take, length-drop, drop_of_length-le}
+use lib.Seq.{length-take-le, get_or-append-add, take_at, drop_at, drop-append-add}
+use borrow.Author.Tests.{ne_eqb}
+use Rattle.std.specs.Prelude.{Some, None}
 use Rattle.laws.specs.Lists.{each, All, none, also}
 use Rattle.laws.specs.Writing.{front, Room, Wrote}
 use Rattle.laws.proofs.Bools.{test}
 use Rattle.laws.proofs.Lists.{each_append}
-use Rattle.laws.proofs.Filling.{room-all}
 use Rattle.clusters.specs.Table.{letters_of, has_row, cluster_row}
 use Rattle.clusters.specs.Rows.{letter_in, unpacked, table_codes, extended_codes, row_codes, row_code, rows_of, rows_in, Rows, as_row, row_by, letters_by}
 use Rattle.clusters.specs.Inner.{Packs, packs, packs-none}
@@ -59,9 +58,13 @@ module _ (table : List ℕ) (rows : Rows table) where
       sym (threes-at unpacked unpacked-length table k (rw table-size h)) ∙ ap (λ (l : List ℕ). take 3 (drop (3 * k) l)) rows
       ∙ threes-at cluster_row row-length row_codes k (rw codes-length h)
 
--- ---- both tables, as the code puts them together: the first at the front of a buffer of zeros,
--- and the second after it
+-- ---- both tables, one after the other
 
+rows_joined : (first second : List ℕ) → rows_in first ≡ rows_of table_codes → rows_in second ≡ rows_of extended_codes → Rows (first ++ second)
+rows_joined first second is-first is-second =
+    each_append unpacked first second ∙ rw (is-first, is-second) (sym (each_append cluster_row table_codes extended_codes))
+
+-- and so where they are copied: the first to the front of a buffer of zeros, and the second after it
 module _ (zeros first second : List ℕ) {both part : List ℕ} (is-first : rows_in first ≡ rows_of table_codes) (is-second : rows_in second ≡ rows_of extended_codes)
     (size-first : 256 ≡ length first) (size-second : 101 ≡ length second) (size : length zeros ≡ 357)
     (put_first : both ≡ front first zeros) (put_second : part ≡ front second (take 101 (drop 256 both))) where
@@ -85,7 +88,7 @@ module _ (zeros first second : List ℕ) {both part : List ℕ} (is-first : rows
   pub both-rows : (357 ≡ length (take 256 both ++ (part ++ drop 101 (drop 256 both)))) × Rows (take 256 both ++ (part ++ drop 101 (drop 256 both)))
   both-rows = (
     rw put_both (rw length-append (omega (arith, size-first, size-second))),
-    ap rows_in put_both ∙ each_append unpacked first second ∙ rw (is-first, is-second) (sym (each_append cluster_row table_codes extended_codes)),
+    ap rows_in put_both ∙ rows_joined first second is-first is-second,
   )
 
 -- ---- the row of a code by value, as the code reads it
@@ -96,7 +99,7 @@ first-nonzero none h = absurd (omega arith)
 first-nonzero (also p rest) h = p
 
 -- so the number in the tables has a first letter
-pub row-packed : (table : List ℕ) → Rows table → (c k : ℕ) → Numbered c k → Packs c (get_or table k 0)
+pub row-packed : (table : List ℕ) → Rows table → (c k : ℕ) → Numbered c k → Packs c (Some (get_or table k 0))
 row-packed table rows c k is = packs some here
   where
     here : unpacked (get_or table k 0) ≡ cluster_row c
@@ -107,22 +110,31 @@ row-packed table rows c k is = packs some here
         first-nonzero (letters-nonzero c (λ e. omega (arith, e, row-least c (has-row c k is)))) (letters-least c)
         (sym (ap (λ (row : List ℕ). get_or row 0 0) here) ∙ rw z)
 
+-- and so each number of the two tables, wherever each of them stands
+module _ (table extended : List ℕ) (is-table : rows_in table ≡ rows_of table_codes) (is-extended : rows_in extended ≡ rows_of extended_codes)
+    (size : 256 ≡ length table) where
+  pub table-packed : (c k : ℕ) → k < 256 → Numbered c k → Packs c (Some (get_or table k 0))
+  table-packed c k h is = rw (get_or-append table extended 0 k (omega (arith, size))) at (row-packed (table ++ extended) (rows_joined table extended is-table is-extended) c k is)
+
+  pub extended-packed : (c k : ℕ) {n : ℕ} → n ≡ 256 + k → Numbered c n → Packs c (Some (get_or extended k 0))
+  extended-packed c k e is =
+      let far : 256 + k ≡ length table + k = omega (arith, size) in
+      rw (e, far, get_or-append-add table extended k 0) at (row-packed (table ++ extended) (rows_joined table extended is-table is-extended) c _ is)
+
 -- what has no row is alone
 row-outside : (c : ℕ) → has_row c ≡ false → as_row (c ∷ []) ≡ row_by c
 unfolding row_by
 row-outside c e = rw (letters-outside c e)
 
--- THE ROW OF A CODE IS READ FROM ITS NUMBER, and 0 says that the code is alone
-module _ {c n : ℕ} where
-  pub row_read : Packs c n → (n ≡ 0 → ⊥) → {b d : ℕ} → b ≡ letter_in (n / 512 % 512) → d ≡ letter_in (n / 262144 % 512)
+-- THE ROW OF A CODE IS READ FROM ITS NUMBER, and a code that has none is alone
+module _ {c : ℕ} where
+  pub row_read : {n : ℕ} → Packs c (Some n) → {b d : ℕ} → b ≡ letter_in (n / 512 % 512) → d ≡ letter_in (n / 262144 % 512)
       → record { first = 0x10FF + n % 512; second = b; third = d } ≡ row_by c
   unfolding row_by
-  row_read (packs some is) h second third = rw (second, third) (simp (ne_eqb (n % 512) 0 some) at (ap as_row is))
-  row_read (packs-none z off) h second third = absurd (h z)
+  row_read (packs {n} some is) second third = rw (second, third) (simp (ne_eqb (n % 512) 0 some) at (ap as_row is))
 
-  pub row-alone : Packs c n → n ≡ 0 → as_row (c ∷ []) ≡ row_by c
-  row-alone (packs some is) z = absurd (some (rw z refl))
-  row-alone (packs-none z off) e = row-outside c off
+  pub row-alone : Packs c None → as_row (c ∷ []) ≡ row_by c
+  row-alone (packs-none off) = row-outside c off
 
 -- ---- the letters of a row by value
 
@@ -135,16 +147,6 @@ module _ (row : Row) where
 
   pub by_three : (row.second ≡ 0 → ⊥) → (row.third ≡ 0 → ⊥) → letters_by row ≡ row.first ∷ row.second ∷ row.third ∷ []
   by_three n m = simp (ne_eqb row.second 0 n, ne_eqb row.third 0 m)
-
-  -- a buffer with room for them has room for the second, and for the third, where there are such
-  module _ {out : List ℕ} {at : ℕ} (room : Room out at (letters_by row)) where
-    pub by-room-two : (row.second ≡ 0 → ⊥) → at + 1 < length out
-    by-room-two n =
-        test (eqb row.third 0) (λ e. omega (arith, room-all room (by_two n (eqb-true row.third 0 e))))
-        (λ e. omega (arith, room-all room (by_three n (eqb-false row.third 0 e))))
-
-    pub by-room-three : (row.second ≡ 0 → ⊥) → (row.third ≡ 0 → ⊥) → at + 2 < length out
-    by-room-three n m = omega (arith, room-all room (by_three n m))
 
 -- letters that are not 0, one to three of them, are read back from the row that they make
 row_back : {x : List ℕ} → All (λ l. l ≡ 0 → ⊥) x → 1 ≤ length x → length x ≤ 3 → letters_by (as_row (take 3 (x ++ (0 ∷ 0 ∷ [])))) ≡ x

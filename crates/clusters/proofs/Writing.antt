@@ -1,23 +1,20 @@
 -- What the code has at each return of the functions that write what a code point gives. In order: a
--- code, and several, taken by the joiner; a letter, and several, taken by both machines (`Going`:
--- what the loop over a code point's letters keeps); what is still open at the end.
+-- code, taken by the joiner; letters, taken by both machines (`Going`: what the loop over a code
+-- point's letters keeps); what is still open at the end.
 use mathlib.Core.Path.{◌≡◌, refl, sym, ◌∙◌, ap}
 use mathlib.Core.List.{List, [], ◌∷◌, ◌++◌, append-nil, append_assoc}
-use Prim.Native.Nat.{ℕ, ◌+◌, ◌≤◌, ◌<◌}
+use Prim.Native.Nat.{ℕ, ◌≤◌}
 use native.Mathlib.Omega.{arith}
-use native.Mathlib.Numerals.{add-one}
-use lib.ListN.{length, get_or, take, drop, drop_of_length-le}
-use lib.Seq.{length-take-le, get_or-take, drop-cons, take-append_seam}
+use lib.ListN.{length, take, drop}
+use lib.Seq.{take-append_seam}
 use Rattle.laws.specs.Machines.{Machine, outs, ends}
 use Rattle.laws.specs.Writing.{Room, Wrote}
 use Rattle.laws.proofs.Machines.{outs-append, ends-append, from-outs}
-use Rattle.laws.proofs.Filling.{Piece, wrote_none, wrote-two, wrote-length, room-first, room-second, filling-none, filling-last}
+use Rattle.laws.proofs.Filling.{Piece, wrote_none, wrote-two, room-first, room-second, filling-none, filling-last}
 use Rattle.joining.specs.Joining.{held, joiner}
 use Rattle.joining.specs.Answers.{emitted, Stepped}
-use Rattle.joining.specs.declared.joiner.Open.{Open}
 use Rattle.joining.specs.declared.joiner.Outcome.{Outcome}
-use Rattle.clusters.specs.Inner.{gather_flush, GatherStepped, gathering, state_of, Joined, Turned}
-use Rattle.clusters.specs.declared.gather.Gathered.{Gathered}
+use Rattle.clusters.specs.Inner.{gather_flush, gathering, state_of, Joined, Turned}
 use Rattle.clusters.specs.declared.gathered.Writer.{Writer}
 
 -- ---- what a machine writes of two parts of a text, and of one letter
@@ -46,52 +43,7 @@ module _ (w : Writer) (c : ℕ) {s : Outcome} (step : Stepped w.joiner.state c s
       → Joined w (c ∷ []) out (record { pending = w.pending; joiner = s.joiner; at = r }) out'
   joined-code h = record { pends = refl; opens = step.opens; writes = rw is-step at h }
 
--- none, one or two of them
-module _ (w : Writer) {codes : List ℕ} where
-  pub joined-none : {out : List ℕ} → codes ≡ [] → Joined w codes out w out
-  joined-none e = rw e (record { pends = refl; opens = refl; writes = wrote_none refl })
-
-  pub joined-one : {a : ℕ} {out : List ℕ} {r : Writer} {out' : List ℕ} → codes ≡ a ∷ [] → Joined w (a ∷ []) out r out' → Joined w codes out r out'
-  joined-one e j = rw e j
-
-  pub room-only : {a : ℕ} {out : List ℕ} → codes ≡ a ∷ [] → Room out w.at (outs joiner w.joiner.state codes)
-      → Room out w.at (outs joiner w.joiner.state (a ∷ []))
-  room-only e h = rw e at h
-
-  module _ {a b : ℕ} (e : codes ≡ a ∷ b ∷ []) where
-    two-codes : {o : Open} → o ≡ ends joiner w.joiner.state (a ∷ [])
-        → Piece (outs joiner w.joiner.state codes) (outs joiner w.joiner.state (a ∷ [])) (outs joiner o (b ∷ []))
-    two-codes h = rw e (outs-piece joiner w.joiner.state (a ∷ []) (b ∷ []) h)
-
-    pub room-first-code : {out : List ℕ} → Room out w.at (outs joiner w.joiner.state codes)
-        → Room out w.at (outs joiner w.joiner.state (a ∷ []))
-    room-first-code h = room-first h (two-codes refl)
-
-    module _ {v : Writer} {out out' : List ℕ} (first : Joined w (a ∷ []) out v out') where
-      pub room-second-code : Room out w.at (outs joiner w.joiner.state codes) → Room out' v.at (outs joiner v.joiner.state (b ∷ []))
-      room-second-code h = room-second h (two-codes first.opens) first.writes
-
-      pub joined-two : {r : Writer} {out'' : List ℕ} → Joined v (b ∷ []) out' r out'' → Joined w codes out r out''
-      joined-two j = record {
-        pends = j.pends ∙ first.pends;
-        opens = j.opens ∙ ends-piece joiner w.joiner.state (a ∷ []) (b ∷ []) first.opens
-            ∙ ap (λ (l : List ℕ). ends joiner w.joiner.state l) (sym e);
-        writes = wrote-two (two-codes first.opens) first.writes j.writes;
-      }
-
--- ---- a letter, taken by both machines
-
-module _ (w : Writer) (c : ℕ) {s : Gathered} (step : GatherStepped w.pending c s) where
-  is-gathered : outs joiner w.joiner.state (emitted s.out) ≡ outs gathering (state_of w) (c ∷ [])
-  is-gathered = ap (outs joiner w.joiner.state) step.writes ∙ sym (outs-one gathering (state_of w) c)
-
-  pub room-letter : {out : List ℕ} → Room out w.at (outs gathering (state_of w) (c ∷ []))
-      → Room out w.at (outs joiner w.joiner.state (emitted s.out))
-  room-letter h = rw is-gathered h
-
-  pub turned-letter : {out : List ℕ} {r : Writer} {out' : List ℕ}
-      → Joined (record { pending = s.pending; joiner = w.joiner; at = w.at }) (emitted s.out) out r out' → Turned w (c ∷ []) out r out'
-  turned-letter j = record { goes = rw (j.pends, j.opens, step.pends, step.writes); writes = rw is-gathered at j.writes }
+-- ---- letters, taken by both machines
 
 -- several: of `all` those in front of `left` are taken
 pub record Going (w₀ : Writer) (all left out₀ : List ℕ) (w : Writer) (out : List ℕ) : Type 0 where
@@ -122,16 +74,6 @@ module _ {w₀ w : Writer} {all left out₀ out : List ℕ} {a : ℕ} {left' : L
 pub going_end : {w₀ w : Writer} {all left out₀ out : List ℕ} → Going w₀ all left out₀ w out → left ≡ [] → Turned w₀ all out₀ w out
 going_end g e = rw (← g.rest, e, append-nil g.done) g.turned
 
--- the next of the first n letters
-module _ (letters : List ℕ) (n i : ℕ) where
-  pub letters-next : i < n → n ≤ length letters → drop i (take n letters) ≡ get_or letters i 0 ∷ drop (i + 1) (take n letters)
-  letters-next h k =
-      let size : length (take n letters) ≡ n = length-take-le n letters k in
-      drop-cons (take n letters) i 0 (omega arith) ∙ rw (get_or-take n letters i 0 h, add-one)
-
-  pub letters-end : n ≤ i → n ≤ length letters → drop i (take n letters) ≡ []
-  letters-end h k = let size : length (take n letters) ≡ n = length-take-le n letters k in drop_of_length-le (take n letters) {i = i} (omega arith)
-
 -- the letters that were written to the front
 module _ {l xs l' : List ℕ} {r : ℕ} (fits : length xs ≤ length l) (w : Wrote l 0 xs r l') where
   pub letters-taken : take r l' ≡ xs
@@ -139,8 +81,8 @@ module _ {l xs l' : List ℕ} {r : ℕ} (fits : length xs ≤ length l) (w : Wro
       let f = filling-last fits (filling-none xs l) (record { eq = sym (append-nil xs) }) w in
       rw (f.size, f.holds) (take-append_seam xs (drop (length xs) l))
 
-  pub letters-fit : r ≤ length l'
-  letters-fit = omega (arith, w.after, wrote-length w, fits)
+  pub letters-fit : r ≤ length l
+  letters-fit = omega (arith, w.after, fits)
 
 pub turned_taken : {w : Writer} {xs ys out : List ℕ} {r : Writer} {out' : List ℕ} → ys ≡ xs → Turned w ys out r out' → Turned w xs out r out'
 turned_taken e t = rw e at t

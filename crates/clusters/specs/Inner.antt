@@ -1,9 +1,9 @@
 -- What helpers promise. In order: a row as one number (`Packs`); the spans in which a cluster is
--- looked for (`In`, `Covers`), what the search answers (`Searched`, `or_zero`); gathering as a
+-- looked for (`In`, `Covers`), what the search answers (`Searched`); gathering as a
 -- machine that carries the letters not yet decided, and a step of it; joining after it, and the
 -- parts of each code point before it, as one machine (`coded`); what is written with both states by
 -- value (`Joined`, `Turned`).
-use Rattle.std.specs.Prelude.{◌≡◌, false, ◌⊎◌, List, [], ◌∷◌, ◌++◌, ℕ, ◌%◌, ◌≤◌, ◌<◌, length}
+use Rattle.std.specs.Prelude.{Option as Answer, Some, None, ◌≡◌, false, ◌⊎◌, List, [], ◌∷◌, ◌++◌, ℕ, ◌%◌, ◌≤◌, ◌<◌, length}
 use Rattle.std.proofs.Math.Option.{Option, none, some}
 use Rattle.laws.specs.Lists.{All}
 use Rattle.laws.specs.Machines.{Machine, chained, fed, outs, ends}
@@ -24,10 +24,11 @@ use Rattle.clusters.specs.declared.gathered.Writer.{Writer}
 
 -- ---- a row as one number
 
--- n unpacks to the row of the code, and so has a first letter; or it is 0, and the code has no row
-pub data Packs (c n : ℕ) : Type 0 where
-  packs : (n % 512 ≡ 0 → ⊥) → unpacked n ≡ cluster_row c → Packs c n
-  packs-none : n ≡ 0 → has_row c ≡ false → Packs c n
+-- a number unpacks to the row of the code, and so has a first letter; or there is none, and the code
+-- has no row
+pub data Packs (c : ℕ) : Answer ℕ → Type 0 where
+  packs : {n : ℕ} → (n % 512 ≡ 0 → ⊥) → unpacked n ≡ cluster_row c → Packs c (Some n)
+  packs-none : has_row c ≡ false → Packs c None
 
 -- ---- the search
 
@@ -44,22 +45,17 @@ Letter span l = (span.low ≤ l) × (l < span.high)
 abbrev pub Covers : List ℕ → Span → Type 0
 Covers front span = (k : ℕ) (rest : List ℕ) → letters_of k ≡ front ++ rest → 1 < length (letters_of k) → In span k × All (Letter span) rest
 
--- r has the row, or it is 0 and no code for which P holds has it
-pub data Searched (row : Row) (P : ℕ → Type 0) (r : ℕ) : Type 0 where
-  hit : row_by r ≡ row → Searched row P r
-  miss : r ≡ 0 → ((k : ℕ) → P k → row_by k ≡ row → ⊥) → Searched row P r
+-- a code has the row; or there is none, and no code for which P holds has it
+pub data Searched (row : Row) (P : ℕ → Type 0) : Answer ℕ → Type 0 where
+  hit : {k : ℕ} → row_by k ≡ row → Searched row P (Some k)
+  miss : ((k : ℕ) → P k → row_by k ≡ row → ⊥) → Searched row P None
 
 -- of the codes from low on, before high; and of a whole span
-abbrev pub SearchedFrom : Row → ℕ → ℕ → ℕ → Type 0
+abbrev pub SearchedFrom : Row → ℕ → ℕ → Answer ℕ → Type 0
 SearchedFrom row low high r = Searched row (λ k. (low ≤ k) × (k < high)) r
 
-abbrev pub SearchedIn : Row → Span → ℕ → Type 0
+abbrev pub SearchedIn : Row → Span → Answer ℕ → Type 0
 SearchedIn row span r = Searched row (In span) r
-
--- no cluster has the code 0, so that 0 can stand for none
-abbrev pub or_zero : Option ℕ → ℕ
-or_zero none = 0
-or_zero (some k) = k
 
 -- ---- gathering as a machine: its state is the letters not yet decided
 

@@ -1,17 +1,17 @@
 // Gathering letters into clusters, one letter at a time: what is not yet decided goes in by value
 // and comes back.
-ghost use Rattle.std.specs.Prelude.{◌≡◌, ◌&&◌, List, [], ◌∷◌, ◌++◌, ℕ, eqb};
+ghost use Rattle.std.specs.Prelude.{◌≡◌, List, [], ◌∷◌, ◌++◌, ℕ};
 ghost use Rattle.joining.specs.Answers.{emitted};
-ghost use Rattle.clusters.specs.Rows.{Rows};
 ghost use Rattle.clusters.specs.Gathering.{two_of, three_of};
-ghost use Rattle.clusters.specs.Inner.{Covers, SearchedFrom, SearchedIn, or_zero, gather_flush, GatherStepped};
+ghost use Rattle.laws.specs.Options.{as_answer};
+ghost use Rattle.clusters.specs.Inner.{Covers, SearchedFrom, SearchedIn, gather_flush, GatherStepped};
 ghost use Rattle.clusters.specs.declared.gather.Pending.TheVariants.{Two};
 
-use crate::table::{Cell, Row};
+use crate::table::{Row, row_at};
 use joining::Emitted;
 
 // The codes from `low` on, before `high`, and those from `outer` on, before `end`.
-#[derive(Clone, Copy)]
+#[derive(Clone, Copy, Debug, PartialEq, Eq)]
 pub(crate) struct Span {
     pub low: u32,
     pub high: u32,
@@ -27,7 +27,7 @@ pub(crate) struct Gathered {
 }
 
 // The letters not yet decided: at most two, since no cluster has more than three.
-#[derive(Clone, Copy)]
+#[derive(Clone, Copy, Debug, PartialEq, Eq)]
 pub(crate) enum Pending {
     Nothing,
     One(u32),
@@ -46,131 +46,105 @@ fn empty_span() -> Span
     }
 }
 
-// Where the clusters that begin with a letter stand: among those of its own place. All their
-// letters stand from `low` on, before `high`.
-fn span_of(letter: u32) -> Span
-    ensures { Covers (letter ∷ []) result }
-{
-    match letter {
-        0x1100..=0x115E => Span {
-            low: 0x1100,
-            high: 0x115F,
-            outer: 0xA960,
-            end: 0xA97D,
-        },
-        0x1161..=0x11A7 => Span {
-            low: 0x1161,
-            high: 0x11A8,
-            outer: 0xD7B0,
-            end: 0xD7C7,
-        },
-        0x11A8..=0x11FF => Span {
-            low: 0x11A8,
-            high: 0x1200,
-            outer: 0xD7CB,
-            end: 0xD7FC,
-        },
-        _ => empty_span(),
+impl Span {
+    // Where the clusters that begin with a letter stand: among those of its own place. All their
+    // letters stand from `low` on, before `high`.
+    fn of(letter: u32) -> Self
+        ensures { Covers (letter ∷ []) result }
+    {
+        match letter {
+            0x1100..=0x115E => Span {
+                low: 0x1100,
+                high: 0x115F,
+                outer: 0xA960,
+                end: 0xA97D,
+            },
+            0x1161..=0x11A7 => Span {
+                low: 0x1161,
+                high: 0x11A8,
+                outer: 0xD7B0,
+                end: 0xD7C7,
+            },
+            0x11A8..=0x11FF => Span {
+                low: 0x11A8,
+                high: 0x1200,
+                outer: 0xD7CB,
+                end: 0xD7FC,
+            },
+            _ => empty_span(),
+        }
+    }
+
+    // The same with one letter more: nowhere, if that is of another place. So an initial before a
+    // peak, the commonest of all, is never searched for, and three letters seldom.
+    fn narrowed(self, letter: u32) -> Self
+        ensures { (front : List ℕ) → Covers front self → Covers (front ++ (letter ∷ [])) result }
+    {
+        if letter < self.low {
+            return empty_span();
+        }
+        if self.high <= letter {
+            return empty_span();
+        }
+        self
     }
 }
 
-// The same with one letter more: nowhere, if that is of another place. So an initial before a peak,
-// the commonest of all, is never searched for, and three letters seldom.
-fn narrowed(span: Span, letter: u32) -> Span
-    ensures { (front : List ℕ) → Covers front span → Covers (front ++ (letter ∷ [])) result }
-{
-    if letter < span.low {
-        return empty_span();
-    }
-    if span.high <= letter {
-        return empty_span();
-    }
-    span
-}
-
-// Two rows have the same three numbers.
-fn same_row(row: Row, other: Row) -> bool
-    ensures { result ≡ (eqb row.first other.first && (eqb row.second other.second && eqb row.third other.third)) }
-{
-    if row.first != other.first {
-        return false;
-    }
-    if row.second != other.second {
-        return false;
-    }
-    row.third == other.third
-}
-
-// The first code from `low` on, before `high`, that has this row, or 0.
-fn row_between(row: Row, table: &[Cell], low: u32, high: u32) -> u32
-    requires { Rows table.now }
+// The first code from `low` on, before `high`, that has this row.
+fn row_between(row: Row, low: u32, high: u32) -> Option<u32>
     ensures { SearchedFrom row low high result }
 {
-    let mut code = low;
-    while code < high {
-        if same_row(crate::table::row_at(table, code), row) {
-            return code;
+    for code in low..high {
+        if row_at(code) == row {
+            return Some(code);
         }
-        code += 1;
     }
-    0
+    None
 }
 
-// The first code of a span that has this row, or 0.
-fn row_in(row: Row, table: &[Cell], span: Span) -> u32
-    requires { Rows table.now }
+// The first code of a span that has this row.
+fn row_in(row: Row, span: Span) -> Option<u32>
     ensures { SearchedIn row span result }
 {
-    let found = row_between(row, table, span.low, span.high);
-    if found != 0 {
-        return found;
-    }
-    row_between(row, table, span.outer, span.end)
+    row_between(row, span.low, span.high).or_else(|| row_between(row, span.outer, span.end))
 }
 
-// The cluster of two letters, or 0. A second letter 0 would be taken for 'no second letter'.
-fn two_of(first: u32, second: u32, table: &[Cell]) -> u32
-    requires { Rows table.now }
-    ensures { result ≡ or_zero (two_of first second) }
+// The cluster of two letters. A second letter 0 would be taken for 'no second letter'.
+fn two_of(first: u32, second: u32) -> Option<u32>
+    ensures { result ≡ as_answer (two_of first second) }
 {
     if second == 0 {
-        return 0;
+        return None;
     }
     let row = Row {
-        first: first,
-        second: second,
+        first,
+        second,
         third: 0,
     };
-    row_in(row, table, narrowed(span_of(first), second))
+    row_in(row, Span::of(first).narrowed(second))
 }
 
-// The cluster of three letters, or 0; and here a third letter 0 as well.
-fn three_of(first: u32, second: u32, third: u32, table: &[Cell]) -> u32
-    requires { Rows table.now }
-    ensures { result ≡ or_zero (three_of first second third) }
+// The cluster of three letters; and here a third letter 0 as well.
+fn three_of(first: u32, second: u32, third: u32) -> Option<u32>
+    ensures { result ≡ as_answer (three_of first second third) }
 {
     if second == 0 {
-        return 0;
+        return None;
     }
     if third == 0 {
-        return 0;
+        return None;
     }
     let row = Row {
-        first: first,
-        second: second,
-        third: third,
+        first,
+        second,
+        third,
     };
-    row_in(
-        row,
-        table,
-        narrowed(narrowed(span_of(first), second), third),
-    )
+    row_in(row, Span::of(first).narrowed(second).narrowed(third))
 }
 
 // Three letters decide the first of them: three that are a cluster, else two, else it stays alone,
 // as plain text does, which is looked at first.
-fn decided(first: u32, second: u32, third: u32, table: &[Cell]) -> Gathered
-    requires { Rows table.now }
+fn decided(first: u32, second: u32, third: u32) -> Gathered
     ensures { GatherStepped (Two first second) third result }
 {
     if first < 0x1100 {
@@ -179,15 +153,13 @@ fn decided(first: u32, second: u32, third: u32, table: &[Cell]) -> Gathered
             out: Emitted::One(first),
         };
     }
-    let three = three_of(first, second, third, table);
-    if three != 0 {
+    if let Some(three) = three_of(first, second, third) {
         return Gathered {
             pending: Pending::Nothing,
             out: Emitted::One(three),
         };
     }
-    let two = two_of(first, second, table);
-    if two != 0 {
+    if let Some(two) = two_of(first, second) {
         return Gathered {
             pending: Pending::One(third),
             out: Emitted::One(two),
@@ -199,44 +171,42 @@ fn decided(first: u32, second: u32, third: u32, table: &[Cell]) -> Gathered
     }
 }
 
-// Takes the next letter: what it writes, and what is not decided after it.
-pub(crate) fn step(pending: Pending, letter: u32, table: &[Cell]) -> Gathered
-    requires { Rows table.now }
-    ensures { GatherStepped pending letter result }
-{
-    match pending {
-        Pending::Nothing => Gathered {
-            pending: Pending::One(letter),
-            out: Emitted::Empty,
-        },
-        Pending::One(first) => Gathered {
-            pending: Pending::Two(first, letter),
-            out: Emitted::Empty,
-        },
-        Pending::Two(first, second) => decided(first, second, letter, table),
-    }
-}
-
 // Two letters at the end of a text: a cluster, or each alone.
-fn last_two(first: u32, second: u32, table: &[Cell]) -> Emitted
-    requires { Rows table.now }
+fn last_two(first: u32, second: u32) -> Emitted
     ensures { emitted result ≡ gather_flush (Two first second) }
 {
-    let two = two_of(first, second, table);
-    if two != 0 {
-        return Emitted::One(two);
+    match two_of(first, second) {
+        Some(two) => Emitted::One(two),
+        None => Emitted::Two(first, second),
     }
-    Emitted::Two(first, second)
 }
 
-// What is still not decided at the end of a text.
-pub(crate) fn flush(pending: Pending, table: &[Cell]) -> Emitted
-    requires { Rows table.now }
-    ensures { emitted result ≡ gather_flush pending }
-{
-    match pending {
-        Pending::Nothing => Emitted::Empty,
-        Pending::One(only) => Emitted::One(only),
-        Pending::Two(first, second) => last_two(first, second, table),
+impl Pending {
+    // Takes the next letter: what it writes, and what is not decided after it.
+    pub(crate) fn step(self, letter: u32) -> Gathered
+        ensures { GatherStepped self letter result }
+    {
+        match self {
+            Pending::Nothing => Gathered {
+                pending: Pending::One(letter),
+                out: Emitted::Empty,
+            },
+            Pending::One(first) => Gathered {
+                pending: Pending::Two(first, letter),
+                out: Emitted::Empty,
+            },
+            Pending::Two(first, second) => decided(first, second, letter),
+        }
+    }
+
+    // What is still not decided at the end of a text.
+    pub(crate) fn flush(self) -> Emitted
+        ensures { emitted result ≡ gather_flush self }
+    {
+        match self {
+            Pending::Nothing => Emitted::Empty,
+            Pending::One(only) => Emitted::One(only),
+            Pending::Two(first, second) => last_two(first, second),
+        }
     }
 }

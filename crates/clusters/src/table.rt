@@ -1,16 +1,15 @@
-// The two tables of clusters, 256 and 101 rows, each packed into one number, and the row of a code
-// (document 01, 'Simple letters and clusters'; document 02, #106 and #111).
-ghost use Rattle.std.specs.Prelude.{◌≡◌, ◌≤◌, ◌<◌, length};
-ghost use Rattle.laws.specs.Writing.{front};
-ghost use Rattle.clusters.specs.Rows.{letter_in, rows_in, table_codes, extended_codes, rows_of, Rows, row_by};
+// The two tables of clusters, 256 and 101 rows, each row packed into one number, and the row of a
+// code (document 01, 'Simple letters and clusters'; document 02, #106 and #111).
+ghost use Rattle.std.specs.Prelude.{◌≡◌, ◌<◌, length};
+ghost use Rattle.clusters.specs.Rows.{letter_in, rows_in, table_codes, extended_codes, rows_of, row_by};
 ghost use Rattle.clusters.specs.Inner.{Packs};
 
 // A row as one number. Each letter takes nine bits, the first the lowest: 0 for no letter, else the
 // letter's distance from 10FF.
-pub(crate) type Cell = u32;
+type Cell = u32;
 
-// A row: the first letter, and the second and third or 0.
-#[derive(Clone, Copy)]
+// A row: the first letter, and the second and third or 0, as document 01 has it (`cluster_row`).
+#[derive(Clone, Copy, Debug, PartialEq, Eq)]
 pub(crate) struct Row {
     pub first: u32,
     pub second: u32,
@@ -28,44 +27,9 @@ fn letter(bits: u32) -> u32
     0x10FF + bits
 }
 
-// The row of a code as one number, or 0 if it has none.
-fn packed_at(table: &[Cell], code: u32) -> Cell
-    requires { Rows table.now }
-    ensures { Packs code result }
-{
-    match code {
-        0x1100..=0x11FF => table[(code - 0x1100) as usize],
-        0xA960..=0xA97C => table[256 + (code - 0xA960) as usize],
-        0xD7B0..=0xD7C6 => table[285 + (code - 0xD7B0) as usize],
-        0xD7CB..=0xD7FB => table[308 + (code - 0xD7CB) as usize],
-        _ => 0,
-    }
-}
-
-// The row of a code, unpacked; a code that has no row is alone.
-pub(crate) fn row_at(table: &[Cell], code: u32) -> Row
-    requires { Rows table.now }
-    ensures { result ≡ row_by code }
-{
-    let packed = packed_at(table, code);
-    if packed == 0 {
-        return Row {
-            first: code,
-            second: 0,
-            third: 0,
-        };
-    }
-    // A row has a first letter, whose bits need no test.
-    Row {
-        first: 0x10FF + packed % 512,
-        second: letter(packed / 512 % 512),
-        third: letter(packed / 262144 % 512),
-    }
-}
-
 // Of a cluster its letters, of any other code itself. Laid out by hand, eight rows a line and the
 // first one's code after them: `rt fmt` would give each number a line.
-const TABLE: [Cell; 256] = [
+static TABLE: [Cell; 256] = [
     0x0000001, 0x0000201, 0x0000003, 0x0000004, 0x0000804, 0x0000006, 0x0000007, 0x0000008, // 1100
     0x0001008, 0x000000A, 0x000140A, 0x000000C, 0x000000D, 0x0001A0D, 0x000000F, 0x0000010, // 1108
     0x0000011, 0x0000012, 0x0000013, 0x0000203, 0x0000603, 0x0000803, 0x0001003, 0x0000204, // 1110
@@ -101,7 +65,7 @@ const TABLE: [Cell; 256] = [
 ];
 
 // The same of the letters outside 1100-11FF: A960-A97C, D7B0-D7C6 and D7CB-D7FB.
-const EXTENDED: [Cell; 101] = [
+static EXTENDED: [Cell; 101] = [
     0x0000E04, 0x0001004, 0x0001404, 0x0001A04, 0x0000206, 0x0040206, 0x0000806, 0x0100806, // A960
     0x0000E06, 0x0001006, 0x0201006, 0x0301006, 0x0001406, 0x0001A06, 0x0002006, 0x0000207, // A968
     0x0000807, 0x0001407, 0x0441408, 0x0002008, 0x0002608, 0x020140A, 0x0000C0C, 0x000260C, // A970
@@ -118,44 +82,52 @@ const EXTENDED: [Cell; 101] = [
     0x00182C2, // D7FB
 ];
 
-// The rows of 1100-11FF.
-fn table_rows() -> [Cell; 256]
-    ensures value { 256 ≡ length result }
-    ensures result_value { rows_in result ≡ rows_of table_codes }
+// The rows of 1100-11FF. The table is lent, and never copied to the stack.
+fn table_rows() -> &'static [Cell; 256]
+    ensures value { 256 ≡ length result.now }
+    ensures result_value { rows_in result.now ≡ rows_of table_codes }
 {
-    TABLE
+    &TABLE
 }
 
-// The rows of the letters outside.
-fn extended_rows() -> [Cell; 101]
-    ensures value { 101 ≡ length result }
-    ensures result_value { rows_in result ≡ rows_of extended_codes }
+// The rows of the letters outside, lent too.
+fn extended_rows() -> &'static [Cell; 101]
+    ensures value { 101 ≡ length result.now }
+    ensures result_value { rows_in result.now ≡ rows_of extended_codes }
 {
-    EXTENDED
+    &EXTENDED
 }
 
-// Copies all rows to the front of `out`, which has room for them.
-fn copy(rows: &[Cell], out: &mut [Cell])
-    requires { length rows.now ≤ length out.old }
-    ensures { out.new ≡ front rows.now out.old }
+// The row of a code as one number, if it has one.
+fn packed_at(code: u32) -> Option<Cell>
+    ensures { Packs code result }
 {
-    let mut at = 0;
-    while at < rows.len() {
-        out[at] = rows[at];
-        at += 1;
+    let table = table_rows();
+    let extended = extended_rows();
+    match code {
+        0x1100..=0x11FF => Some(table[(code - 0x1100) as usize]),
+        0xA960..=0xA97C => Some(extended[(code - 0xA960) as usize]),
+        0xD7B0..=0xD7C6 => Some(extended[29 + (code - 0xD7B0) as usize]),
+        0xD7CB..=0xD7FB => Some(extended[52 + (code - 0xD7CB) as usize]),
+        _ => None,
     }
 }
 
-// Both tables, one after the other. A call takes them once and lends them on, since each use of a
-// constant puts the whole of it on the stack.
-pub(crate) fn table() -> [Cell; 357]
-    ensures value { 357 ≡ length result }
-    ensures rows { Rows result }
+// The row of a code, unpacked; a code that has no row is alone.
+pub(crate) fn row_at(code: u32) -> Row
+    ensures { result ≡ row_by code }
 {
-    let first = table_rows();
-    let second = extended_rows();
-    let mut both = [0u32; 357];
-    copy(&first, &mut both);
-    copy(&second, &mut both[256..]);
-    both
+    match packed_at(code) {
+        // A row has a first letter, whose bits need no test.
+        Some(packed) => Row {
+            first: 0x10FF + packed % 512,
+            second: letter(packed / 512 % 512),
+            third: letter(packed / 262144 % 512),
+        },
+        None => Row {
+            first: code,
+            second: 0,
+            third: 0,
+        },
+    }
 }

@@ -11,15 +11,15 @@ use mathlib.Core.List.{List, [], ◌∷◌}
 use Prim.Native.Nat.{ℕ, zero, suc}
 use lib.Dec.{ltb}
 use lib.ListN.{length}
+use Rattle.std.specs.Prelude.{Result}
 use Rattle.laws.specs.Writing.{front}
 use Rattle.answers.specs.Checks.{Check, passes, refuses, in_order, over_limit, bad_code_point, no_room, takes_text, takes_bytes, takes_units}
 use Rattle.answers.specs.Verdicts.{Verdict, done, refused, verdict, after, fits}
 use Rattle.answers.specs.Answers.{Makes}
-use Rattle.answers.specs.declared.answer.Filled.{Filled}
+use Rattle.answers.specs.declared.refusal.Refusal.{Refusal}
 use Rattle.letters.specs.Syllables.{is_syllable, full_parts}
 use Rattle.joining.specs.Joining.{join as joins}
 use Rattle.encodings.specs.Reading.{ReadsIn}
-use Rattle.encodings.specs.declared.answer.Read.{Read}
 use Rattle.utf8.specs.Utf8.{read_text, write_text}
 use Rattle.utf8.specs.Reading.{Reads}
 use Rattle.mending.specs.Mending.{mended}
@@ -38,6 +38,7 @@ use Rattle.pulphopper.specs.declared.answer.Answer.{Answer}
 use Rattle.demands.specs.Demand1.{Demand1}
 use Rattle.demands.specs.Calls as rows
 use Rattle.demands.proofs.Demand1.{kept, after_kept, demanded, answered, answered-one, filled-demanded, filled-alone}
+use Rattle.encodings.specs.declared.answer.Counted.{Counted}
 
 -- ---- in the words of the other crates
 
@@ -155,15 +156,15 @@ one-step code r e = answered-one e
 
 -- ---- what a call from text to text promises, one from bytes, and one from units
 
-of-text : (make : List ℕ → List ℕ) (text out out' : List ℕ) (r : Filled) → Makes make text out r out' → rows.OfText make text out r out'
+of-text : (make : List ℕ → List ℕ) (text out out' : List ℕ) (r : Result ℕ Refusal) → Makes make text out r out' → rows.OfText make text out r out'
 unfolding takes_text
 of-text make text out out' r h = filled-demanded (over_limit 16384 (length text) ∷ bad_code_point text ∷ []) refl h.fills
 
-of-bytes : (make : List ℕ → List ℕ) (text out out' : List ℕ) (r : Read) → Reads make text out r out' → rows.OfBytes make text out r out'
+of-bytes : (make : List ℕ → List ℕ) (text out out' : List ℕ) (r : Result Counted Refusal) → Reads make text out r out' → rows.OfBytes make text out r out'
 unfolding takes_units
 of-bytes make text out out' r h = filled-alone h.fills
 
-of-units : (make : List ℕ → List ℕ) (text out out' : List ℕ) (r : Read) → ReadsIn form16 make text out r out' → rows.OfUnits make text out r out'
+of-units : (make : List ℕ → List ℕ) (text out out' : List ℕ) (r : Result Counted Refusal) → ReadsIn form16 make text out r out' → rows.OfUnits make text out r out'
 unfolding takes_units
 of-units make text out out' r h = filled-alone h.fills
 

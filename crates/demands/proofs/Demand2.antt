@@ -4,10 +4,10 @@ use mathlib.Core.List.{List, [], ◌∷◌}
 use Prim.Native.Nat.{ℕ, ◌+◌}
 use native.Mathlib.Omega.{arith}
 use lib.ListN.{length, take}
+use Rattle.std.specs.Prelude.{Ok}
 use Rattle.answers.specs.Checks.{Check, passes, refuses, bad_code_point}
 use Rattle.answers.specs.Verdicts.{done, verdict}
 use Rattle.answers.specs.Answers.{Makes}
-use Rattle.answers.specs.declared.answer.Filled.TheVariants.{Done}
 use Rattle.answers.proofs.Verdicts.{done-not-refused, fills-done, fills-front}
 use Rattle.letters.proofs.Steps.{index-made}
 use Rattle.letters.proofs.Chapter3.{step-mapping, full-decomposition}
@@ -19,7 +19,6 @@ use Rattle.encodings.specs.Pieces.{pieces}
 use Rattle.encodings.specs.Forms.{Form, ill_in}
 use Rattle.encodings.specs.Reading.{ReadsIn}
 use Rattle.encodings.specs.declared.answer.Counted.{Counted}
-use Rattle.encodings.specs.declared.answer.Read.TheVariants.{Done as ReadDone}
 use Rattle.encodings.proofs.Texts.{reading-in, reading-in-unique}
 use Rattle.utf8.specs.Table37.{kind_of}
 use Rattle.utf8.specs.Utf8.{read_text}
@@ -32,11 +31,11 @@ use Rattle.names.proofs.Found.{passes-syllable, names-whole, names-unique, read_
 use Rattle.demands.specs.Demand2 as demand
 
 -- what a call that is done made of a text
-pub made : (make : List ℕ → List ℕ) {text out out' : List ℕ} {n : ℕ} → Makes make text out (Done n) out' → take n out' ≡ make text
+pub made : (make : List ℕ → List ℕ) {text out out' : List ℕ} {n : ℕ} → Makes make text out (Ok n) out' → take n out' ≡ make text
 made make h = fills-front h.fills (fills-done h.fills).1
 
 -- and of bytes or units, with what it counted
-pub made_in : {f : Form} (make : List ℕ → List ℕ) {text out out' : List ℕ} {c : Counted} → ReadsIn f make text out (ReadDone c) out'
+pub made_in : {f : Form} (make : List ℕ → List ℕ) {text out out' : List ℕ} {c : Counted} → ReadsIn f make text out (Ok c) out'
     → (take c.length out' ≡ make text) × (c.ills ≡ ill_in f text)
 made_in make h =
     let d = fills-done h.fills in

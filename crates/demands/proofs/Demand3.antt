@@ -4,13 +4,13 @@ use mathlib.Core.List.{List, ◌++◌}
 use Prim.Native.Nat.{ℕ, ◌≤◌}
 use native.Mathlib.Omega.{arith}
 use lib.ListN.{length}
+use Rattle.std.specs.Prelude.{Result, Ok}
+use Rattle.answers.specs.declared.refusal.Refusal.{Refusal}
 use Rattle.answers.proofs.Checks.{units-taken}
 use Rattle.encodings.specs.Pieces.{units_of}
 use Rattle.encodings.specs.Forms.{Form}
 use Rattle.encodings.specs.Reading.{counted_in, ReadsIn}
 use Rattle.encodings.specs.declared.answer.Counted.{Counted}
-use Rattle.encodings.specs.declared.answer.Read.{Read}
-use Rattle.encodings.specs.declared.answer.Read.TheVariants.{Done}
 use Rattle.encodings.proofs.Texts.{reading-in-unique}
 use Rattle.utf8.specs.Utf8.{form8}
 use Rattle.utf8.proofs.Round.{encodes8}
@@ -22,8 +22,8 @@ use Rattle.mending.proofs.Damage.{ending_at, beginning-at, call-around, demand-3
 use Rattle.demands.specs.Demand3.{IsDone, OutsideTheMiddle, EndingsPlace, BeginningsPlace, AroundIllFormed}
 
 -- a call within the limit and with room for what it makes is done, in any encoding form
-pub done-in : (f : Form) (text out : List ℕ) {out' : List ℕ} {r : Read} → length text ≤ 16384 → length (mended_in f text) ≤ length out
-    → ReadsIn f (mended_in f) text out r out' → (c : Counted) × (r ≡ Done c)
+pub done-in : (f : Form) (text out : List ℕ) {out' : List ℕ} {r : Result Counted Refusal} → length text ≤ 16384 → length (mended_in f text) ≤ length out
+    → ReadsIn f (mended_in f) text out r out' → (c : Counted) × (r ≡ Ok c)
 done-in f text out short room h = (counted_in f (mended_in f) text, (call-done f text out (units-taken text short) room h).0)
 
 pub is-done : IsDone

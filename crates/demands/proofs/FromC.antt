@@ -6,13 +6,12 @@ use mathlib.Core.List.{List, [], ◌∷◌}
 use Prim.Native.Nat.{ℕ, zero, suc, ◌+◌, ◌≤◌}
 use native.Mathlib.Omega.{arith}
 use lib.ListN.{length, take}
+use Rattle.std.specs.Prelude.{Ok}
 use Rattle.answers.specs.Checks.{Check, passes, refuses, in_order, takes_bytes, takes_units}
 use Rattle.answers.specs.Verdicts.{Verdict, verdict, fits}
-use Rattle.answers.specs.declared.answer.Filled.TheVariants.{Done}
 use Rattle.answers.proofs.Verdicts.{fills-done, fills-front}
 use Rattle.encodings.specs.Forms.{Form, ill_in}
 use Rattle.encodings.specs.Reading.{counted_in, ReadsIn}
-use Rattle.encodings.specs.declared.answer.Read.TheVariants.{Done as ReadDone}
 use Rattle.encodings.proofs.Texts.{reading-in-unique}
 use Rattle.utf8.specs.Reading.{counted_of}
 use Rattle.utf8.proofs.Round.{encodes8}
@@ -25,8 +24,8 @@ use Rattle.names.specs.Names.{name_of, named}
 use Rattle.names.specs.Naming.{no_syllable, no_name, syllable_or, Names}
 use Rattle.names.proofs.Found.{passes-syllable, name-reads}
 use Rattle.ranking.specs.Ranking.{order_number, swapped, rank_bytes, takes_two_bytes}
-use Rattle.ranking.specs.declared.order.Order.{Order}
-use Rattle.ranking.specs.declared.order.Order.TheVariants.{Before, Equal, After}
+use Rattle.std.specs.declared.cmp.Ordering.{Ordering}
+use Rattle.std.specs.declared.cmp.Ordering.TheVariants.{Less, Equal, Greater}
 use Rattle.ranking.proofs.Orders.{chain-most}
 use Rattle.ranking.proofs.Ranks.{bytes-swapped, bytes-chain, same-mended-equal}
 use Rattle.pulphopper.specs.Replies.{plain_answer, MendsIn, NamesForC, RanksForC}
@@ -59,7 +58,7 @@ module _ {f : Form} {text out out' : List ℕ} {r : Answer} (h : MendsIn f text 
   mended-told : r ≡ record { refusal = 0; count = ill_in f text; value = length (mended_in f text) }
   mended-told = rw mended-passed at h.answers
 
-  mended-call : ReadsIn f (mended_in f) text out (ReadDone (counted_in f (mended_in f) text)) out'
+  mended-call : ReadsIn f (mended_in f) text out (Ok (counted_in f (mended_in f) text)) out'
   mended-call = record { fills = record { answers = rw mended-passed; leaves = h.leaves } }
 
 -- ---- at UTF-8
@@ -109,7 +108,7 @@ module _ {code : ℕ} {out out' : List ℕ} {r : Answer} (h : NamesForC code out
   named-told : r.value ≡ length (name_of code)
   named-told = ap (λ (a : Answer). a.value) (rw named-passed at h.answers)
 
-  named-call : Names code out (Done r.value) out'
+  named-call : Names code out (Ok r.value) out'
   named-call = record { fills = record { answers = rw (named-told, named-passed); leaves = h.leaves } }
 
 pub named-from-c : demand.NamedFromC
@@ -143,18 +142,18 @@ module _ {first second : List ℕ} {r : Answer} (h : RanksForC first second r) (
       ap (λ (a : Answer). a.value)
       (rw (unrefused order-for-c (takes_two_bytes first second) ranked-numbered (rank_bytes first second) h.answers z) at h.answers)
 
-both_ways : (o : Order) → order_number o + order_number (swapped o) ≡ 2
-both_ways Before = refl
+both_ways : (o : Ordering) → order_number o + order_number (swapped o) ≡ 2
+both_ways Less = refl
 both_ways Equal = refl
-both_ways After = refl
+both_ways Greater = refl
 
-not_after : (o : Order) → order_number o ≤ 1 → o ≡ After → ⊥
+not_after : (o : Ordering) → order_number o ≤ 1 → o ≡ Greater → ⊥
 not_after o h e = omega (arith, h, ap order_number e)
 
-at_most : (o : Order) → (o ≡ After → ⊥) → order_number o ≤ 1
-at_most Before h = omega arith
+at_most : (o : Ordering) → (o ≡ Greater → ⊥) → order_number o ≤ 1
+at_most Less h = omega arith
 at_most Equal h = omega arith
-at_most After h = absurd (h refl)
+at_most Greater h = absurd (h refl)
 
 pub swapped-from-c : demand.SwappedFromC
 swapped-from-c first second r q h k y z =

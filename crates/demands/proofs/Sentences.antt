@@ -16,7 +16,7 @@ use Rattle.letters.proofs.Counts.{modern-initials, old-initials, modern-peaks, o
 use Rattle.encodings.specs.Rows.{row_in}
 use Rattle.ranking.specs.Ranking.{rank_item}
 use Rattle.ranking.specs.Items.{Item, number, character}
-use Rattle.ranking.specs.declared.order.Order.TheVariants.{Equal}
+use Rattle.std.specs.declared.cmp.Ordering.TheVariants.{Equal}
 use Rattle.ranking.proofs.Orders.{by-value-self}
 use Rattle.labels.specs.Images.{over_image, no_record, takes_record, takes_writing}
 use Rattle.demands.specs.Sentences.{LettersCounted, Ac0c, OnlyByLength, TrueFffd, NumbersFirst, BeginningFirst, JudgedAlone, NothingStoredJudged}

@@ -4,14 +4,13 @@
 -- the same text of bytes exactly when the Unicode Standard calls them canonically equivalent (D70);
 -- of whatever characters, only then. Statements over any two calls of mending that are done;
 -- nothing is proved here.
-use Rattle.std.specs.Prelude.{◌≡◌, false, ◌↔◌, List, ℕ}
+use Rattle.std.specs.Prelude.{◌≡◌, false, ◌↔◌, List, ℕ, Ok}
 use Rattle.laws.specs.Lists.{All}
 use Rattle.answers.specs.Checks.{bad}
 use Rattle.letters.specs.Syllables.{full_parts}
 use Rattle.normal.specs.Forms.{Database, Equivalent}
 use Rattle.normal.specs.Repertoire.{Repertoire, Ucd}
 use Rattle.encodings.specs.declared.answer.Counted.{Counted}
-use Rattle.encodings.specs.declared.answer.Read.TheVariants.{Done}
 use Rattle.utf8.specs.Utf8.{read_text, write_text}
 use Rattle.utf8.specs.Reading.{Reads}
 use Rattle.mending.specs.Mending.{mended, filled_front}
@@ -21,7 +20,7 @@ pub record Mended (bytes written : List ℕ) : Type 0 where
   pub lent : List ℕ
   pub after : List ℕ
   pub answer : Counted
-  pub call : Reads mended bytes lent (Done answer) after
+  pub call : Reads mended bytes lent (Ok answer) after
   pub is : written ≡ filled_front answer after
 
 -- ONE BOAT: a name as it stands, and the same name taken apart into single letters, are mended to

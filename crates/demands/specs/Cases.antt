@@ -3,27 +3,24 @@
 -- code points or bytes, or the refusal. The claim is over the public calls: every result that a
 -- call's contract admits of the input, whatever buffer it is lent, if only that has 64 elements or
 -- more, is the row's. Nothing is proved here.
-use Rattle.std.specs.Prelude.{◌≡◌, List, [], ◌∷◌, ℕ, ◌≤◌, length, take}
+use Rattle.std.specs.Prelude.{◌≡◌, List, [], ◌∷◌, ℕ, ◌≤◌, length, take, Result}
 use Rattle.laws.specs.Lists.{All}
 use Rattle.laws.specs.Strings.{ascii}
 use Rattle.answers.specs.Checks.{bad_code_point}
 use Rattle.answers.specs.Verdicts.{Verdict, done, refused, verdict}
-use Rattle.answers.specs.Answers.{filled, Makes}
-use Rattle.answers.specs.declared.answer.Filled.{Filled}
+use Rattle.answers.specs.Answers.{Makes, answered}
+use Rattle.answers.specs.declared.refusal.Refusal.{Refusal}
 use Rattle.letters.specs.Syllables.{one_step, full_parts}
 use Rattle.letters.specs.Answers.{stepped}
-use Rattle.letters.specs.declared.step.Stepped.{Stepped}
 use Rattle.joining.specs.Joining.{join}
-use Rattle.encodings.specs.Reading.{read_as}
 use Rattle.encodings.specs.declared.answer.Counted.{Counted}
-use Rattle.encodings.specs.declared.answer.Read.{Read}
 use Rattle.utf8.specs.Utf8.{read_text}
 use Rattle.utf8.specs.Reading.{Reads}
-use Rattle.names.specs.Naming.{named_as, Names, ReadsName}
-use Rattle.names.specs.declared.read.Named.{Named}
+use Rattle.names.specs.Naming.{Names, ReadsName}
 use Rattle.clusters.specs.Simple.{simple}
 use Rattle.clusters.specs.Gathering.{gathered}
 use Rattle.fillers.specs.Groups.{turned}
+use Rattle.letters.specs.declared.step.Parts.{Parts}
 
 -- the calls that the cases speak of: those over a text, and those over one code point
 pub data Call : Type 0 where
@@ -51,19 +48,19 @@ number_alone (refused number place) = refused number place
 -- A CALL GIVES THIS: so does every result that its contract admits, with a buffer of at least 64
 -- elements. First of the calls from text to text
 abbrev pub TextGives : (List ℕ → List ℕ) → List ℕ → Verdict (List ℕ) → Type 0
-TextGives make text v = (out out' : List ℕ) (r : Filled) → 64 ≤ length out → Makes make text out r out' → given (λ n. n) (filled r) out' ≡ v
+TextGives make text v = (out out' : List ℕ) (r : Result ℕ Refusal) → 64 ≤ length out → Makes make text out r out' → given (λ n. n) (answered r) out' ≡ v
 
 abbrev pub Gives : Call → Verdict (List ℕ) → Type 0
-Gives (one-step code) v = (r : Stepped) → stepped r ≡ verdict (bad_code_point (code ∷ [])) (one_step code) → stepped r ≡ v
+Gives (one-step code) v = (r : Result Parts Refusal) → stepped r ≡ verdict (bad_code_point (code ∷ [])) (one_step code) → stepped r ≡ v
 Gives (parts text) v = TextGives full_parts text v
 Gives (simply text) v = TextGives simple text v
 Gives (joins text) v = TextGives join text v
 Gives (gathers text) v = TextGives gathered text v
 Gives (turns text) v = TextGives turned text v
 Gives (reads bytes) v =
-    (out out' : List ℕ) (r : Read) → 64 ≤ length out → Reads read_text bytes out r out' → given (λ (c : Counted). c.length) (read_as r) out' ≡ v
-Gives (names code) v = (out out' : List ℕ) (r : Filled) → 64 ≤ length out → Names code out r out' → given (λ n. n) (filled r) out' ≡ v
-Gives (reads-name name) v = (r : Named) → ReadsName name r → number_alone (named_as r) ≡ v
+    (out out' : List ℕ) (r : Result Counted Refusal) → 64 ≤ length out → Reads read_text bytes out r out' → given (λ (c : Counted). c.length) (answered r) out' ≡ v
+Gives (names code) v = (out out' : List ℕ) (r : Result ℕ Refusal) → 64 ≤ length out → Names code out r out' → given (λ n. n) (answered r) out' ≡ v
+Gives (reads-name name) v = (r : Result ℕ Refusal) → ReadsName name r → number_alone (answered r) ≡ v
 
 pub record CaseRow : Type 0 where
   pub number : ℕ

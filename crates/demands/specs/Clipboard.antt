@@ -4,11 +4,10 @@
 -- specs/Demand3Units. Here stand what demand 2 and the accident say, for units; what an unpaired
 -- surrogate is; how long the answers are; and that a label from the clipboard and the same label
 -- from a file of bytes are one boat. Statements over calls that are done; nothing is proved here.
-use Rattle.std.specs.Prelude.{◌≡◌, false, ◌↔◌, List, [], ◌∷◌, ◌++◌, ℕ, ◌*◌, ◌≤◌, ◌<◌, length, take}
+use Rattle.std.specs.Prelude.{◌≡◌, false, ◌↔◌, List, [], ◌∷◌, ◌++◌, ℕ, ◌*◌, ◌≤◌, ◌<◌, length, take, Ok}
 use Rattle.laws.specs.Lists.{All}
 use Rattle.answers.specs.Checks.{bad}
 use Rattle.answers.specs.Answers.{Makes}
-use Rattle.answers.specs.declared.answer.Filled.TheVariants.{Done}
 use Rattle.letters.specs.Syllables.{full_parts}
 use Rattle.normal.specs.Forms.{nfc}
 use Rattle.normal.specs.Jamo.{jamo}
@@ -18,7 +17,6 @@ use Rattle.encodings.specs.Damage.{codes}
 use Rattle.encodings.specs.Rows.{kind_by}
 use Rattle.encodings.specs.Reading.{ReadsIn}
 use Rattle.encodings.specs.declared.answer.Counted.{Counted}
-use Rattle.encodings.specs.declared.answer.Read.TheVariants.{Done as ReadDone}
 use Rattle.utf8.specs.Utf8.{read_text, write_text}
 use Rattle.utf16.specs.Utf16.{table_d91, utf16, form16, read_units, unpaired, write_units, unpaired_from}
 use Rattle.mending.specs.Mending.{mended, filled_front}
@@ -30,7 +28,7 @@ pub record MendedUnits (units written : List ℕ) : Type 0 where
   pub lent : List ℕ
   pub after : List ℕ
   pub answer : Counted
-  pub call : ReadsIn form16 mended_units units lent (ReadDone answer) after
+  pub call : ReadsIn form16 mended_units units lent (Ok answer) after
   pub is : written ≡ filled_front answer after
 
 -- ---- demand 2 for units
@@ -46,31 +44,31 @@ pub record UnitsReadAsDefined (text written : List ℕ) (ills : ℕ) : Type 0 wh
 
 abbrev pub ReadingUtf16 : Type 0
 ReadingUtf16 =
-    (text out out' : List ℕ) (c : Counted) → ReadsIn form16 read_units text out (ReadDone c) out' → UnitsReadAsDefined text (take c.length out') c.ills
+    (text out out' : List ℕ) (c : Counted) → ReadsIn form16 read_units text out (Ok c) out' → UnitsReadAsDefined text (take c.length out') c.ills
 
 -- "and write": what was written reads back, with nothing counted; and what was read of units with
 -- nothing counted is written back
 abbrev pub WrittenReadsBack : Type 0
 WrittenReadsBack =
-    (text out out' back back' : List ℕ) (n : ℕ) (c : Counted) → Makes write_units text out (Done n) out'
-    → ReadsIn form16 read_units (take n out') back (ReadDone c) back' → (take c.length back' ≡ text) × (c.ills ≡ 0)
+    (text out out' back back' : List ℕ) (n : ℕ) (c : Counted) → Makes write_units text out (Ok n) out'
+    → ReadsIn form16 read_units (take n out') back (Ok c) back' → (take c.length back' ≡ text) × (c.ills ≡ 0)
 
 abbrev pub ReadWritesBack : Type 0
 ReadWritesBack =
-    (units out out' back back' : List ℕ) (c : Counted) (n : ℕ) → ReadsIn form16 read_units units out (ReadDone c) out'
-    → Makes write_units (take c.length out') back (Done n) back' → c.ills ≡ 0 → take n back' ≡ units
+    (units out out' back back' : List ℕ) (c : Counted) (n : ℕ) → ReadsIn form16 read_units units out (Ok c) out'
+    → Makes write_units (take c.length out') back (Ok n) back' → c.ills ≡ 0 → take n back' ≡ units
 
 -- mending is reading, joining and writing: of whatever reading the text has, what was written is
 -- the UTF-16 of what its code points compose to, and the count is that of its unpaired surrogates
 abbrev pub MendingUtf16 : Type 0
 MendingUtf16 =
-    (text out out' : List ℕ) (c : Counted) → ReadsIn form16 mended_units text out (ReadDone c) out' → (P : List (Piece ℕ))
+    (text out out' : List ℕ) (c : Counted) → ReadsIn form16 mended_units text out (Ok c) out' → (P : List (Piece ℕ))
     → Reading (kind_by table_d91) text P → (take c.length out' ≡ write_units (nfc jamo (codes utf16 P))) × (c.ills ≡ ill_count P)
 
 -- mending again changes nothing, and counts nothing
 abbrev pub MendedAgainUnits : Type 0
 MendedAgainUnits =
-    (units v out out' : List ℕ) (c : Counted) → MendedUnits units v → ReadsIn form16 mended_units v out (ReadDone c) out'
+    (units v out out' : List ℕ) (c : Counted) → MendedUnits units v → ReadsIn form16 mended_units v out (Ok c) out'
     → (take c.length out' ≡ v) × (c.ills ≡ 0)
 
 -- ---- unpaired surrogates

@@ -10,13 +10,12 @@
 -- it gives." Statements over calls of mending that are done, whatever room they were given: a call
 -- within the limit and with three bytes for each is (`IsDone`), and so is one with just the room
 -- that it needs (demand 1's row for it, specs/Calls). Nothing is proved here.
-use Rattle.std.specs.Prelude.{◌≡◌, List, [], ◌∷◌, ◌++◌, ℕ, ◌*◌, ◌≤◌, length}
+use Rattle.std.specs.Prelude.{◌≡◌, List, [], ◌∷◌, ◌++◌, ℕ, ◌*◌, ◌≤◌, length, Result, Ok}
+use Rattle.answers.specs.declared.refusal.Refusal.{Refusal}
 use Rattle.encodings.specs.Pieces.{Piece, ill, units_of}
 use Rattle.encodings.specs.Readings.{Reading}
 use Rattle.encodings.specs.Places.{EndingPlace, BeginningFound}
 use Rattle.encodings.specs.declared.answer.Counted.{Counted}
-use Rattle.encodings.specs.declared.answer.Read.{Read}
-use Rattle.encodings.specs.declared.answer.Read.TheVariants.{Done}
 use Rattle.utf8.specs.Table37.{kind_of}
 use Rattle.utf8.specs.Utf8.{utf8}
 use Rattle.utf8.specs.Reading.{Reads}
@@ -27,8 +26,8 @@ use Rattle.demands.specs.Accident.{Mended}
 -- room enough
 abbrev pub IsDone : Type 0
 IsDone =
-    (bytes out out' : List ℕ) (r : Read) → length bytes ≤ 16384 → 3 * length bytes ≤ length out → Reads mended bytes out r out'
-    → (c : Counted) × (r ≡ Done c)
+    (bytes out out' : List ℕ) (r : Result Counted Refusal) → length bytes ≤ 16384 → 3 * length bytes ≤ length out → Reads mended bytes out r out'
+    → (c : Counted) × (r ≡ Ok c)
 
 -- "the same beginning and the same ending and anything in between": outside the damaged middle both
 -- joined texts are the same, and what they are there (`SameAround` of crate mending: a start and a

@@ -7,15 +7,14 @@
 -- proofs/Damage). Statements over calls of mending that are done, whatever room they were given: a
 -- call within the limit and with as many units as come in is (`IsDoneUnits`). Nothing is proved
 -- here.
-use Rattle.std.specs.Prelude.{◌≡◌, List, [], ◌∷◌, ◌++◌, ℕ, ◌≤◌, length}
+use Rattle.std.specs.Prelude.{◌≡◌, List, [], ◌∷◌, ◌++◌, ℕ, ◌≤◌, length, Result, Ok}
+use Rattle.answers.specs.declared.refusal.Refusal.{Refusal}
 use Rattle.encodings.specs.Pieces.{Piece, ill, units_of}
 use Rattle.encodings.specs.Readings.{Reading}
 use Rattle.encodings.specs.Places.{EndingPlace, BeginningFound}
 use Rattle.encodings.specs.Rows.{kind_by}
 use Rattle.encodings.specs.Reading.{ReadsIn}
 use Rattle.encodings.specs.declared.answer.Counted.{Counted}
-use Rattle.encodings.specs.declared.answer.Read.{Read}
-use Rattle.encodings.specs.declared.answer.Read.TheVariants.{Done}
 use Rattle.utf16.specs.Utf16.{table_d91, utf16, form16}
 use Rattle.mending.specs.Mending.{SameAroundIn}
 use Rattle.mending_units.specs.Mending.{mended_units, joined_units}
@@ -25,8 +24,8 @@ use Rattle.demands.specs.Clipboard.{MendedUnits}
 -- enough
 abbrev pub IsDoneUnits : Type 0
 IsDoneUnits =
-    (units out out' : List ℕ) (r : Read) → length units ≤ 16384 → length units ≤ length out → ReadsIn form16 mended_units units out r out'
-    → (c : Counted) × (r ≡ Done c)
+    (units out out' : List ℕ) (r : Result Counted Refusal) → length units ≤ 16384 → length units ≤ length out → ReadsIn form16 mended_units units out r out'
+    → (c : Counted) × (r ≡ Ok c)
 
 -- outside the damaged middle both joined texts are the same, and what they are there
 abbrev pub OutsideTheMiddleUnits : Type 0

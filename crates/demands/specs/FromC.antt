@@ -3,10 +3,9 @@
 -- `ReadFromC`), so that what specs/Accident, Demand2 and Demand3 say of that call holds of it; and
 -- what the header promises beside that: one boat, the count, a name read back, an order to sort by.
 -- Statements over any results that the contracts of the calls for C admit; nothing is proved here.
-use Rattle.std.specs.Prelude.{◌≡◌, false, List, ℕ, ◌+◌, ◌≤◌, take}
+use Rattle.std.specs.Prelude.{◌≡◌, false, List, ℕ, ◌+◌, ◌≤◌, take, Ok}
 use Rattle.laws.specs.Lists.{All}
 use Rattle.answers.specs.Checks.{bad}
-use Rattle.answers.specs.declared.answer.Filled.TheVariants.{Done}
 use Rattle.letters.specs.Syllables.{full_parts}
 use Rattle.encodings.specs.Pieces.{Piece, ill_count}
 use Rattle.encodings.specs.Readings.{Reading}
@@ -15,7 +14,6 @@ use Rattle.utf8.specs.Table37.{kind_of}
 use Rattle.utf8.specs.Utf8.{write_text}
 use Rattle.utf16.specs.Utf16.{table_d91, write_units}
 use Rattle.names.specs.Naming.{Names, ReadsName}
-use Rattle.names.specs.declared.read.Named.TheVariants.{Syllable}
 use Rattle.pulphopper.specs.Replies.{Mends, MendsUnits, NamesForC, ReadsNameForC, RanksForC}
 use Rattle.pulphopper.specs.declared.answer.Answer.{Answer}
 use Rattle.demands.specs.Accident.{Mended}
@@ -59,10 +57,10 @@ CountedUnitsFromC =
 -- ---- names
 
 abbrev pub NamedFromC : Type 0
-NamedFromC = (code : ℕ) (out out' : List ℕ) (r : Answer) → NamesForC code out r out' → r.refusal ≡ 0 → Names code out (Done r.value) out'
+NamedFromC = (code : ℕ) (out out' : List ℕ) (r : Answer) → NamesForC code out r out' → r.refusal ≡ 0 → Names code out (Ok r.value) out'
 
 abbrev pub ReadFromC : Type 0
-ReadFromC = (name : List ℕ) (r : Answer) → ReadsNameForC name r → r.refusal ≡ 0 → ReadsName name (Syllable r.value)
+ReadFromC = (name : List ℕ) (r : Answer) → ReadsNameForC name r → r.refusal ≡ 0 → ReadsName name (Ok r.value)
 
 -- "naming and reading names undo each other": the name that was written is read as the syllable
 abbrev pub ReadBackFromC : Type 0

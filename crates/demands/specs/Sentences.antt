@@ -12,7 +12,7 @@ use Rattle.letters.specs.Sorts.{how_many}
 use Rattle.utf8.specs.Utf8.{read_text, ill_text}
 use Rattle.ranking.specs.Items.{Item, number, character}
 use Rattle.ranking.specs.Ranking.{rank_items}
-use Rattle.ranking.specs.declared.order.Order.TheVariants.{Before}
+use Rattle.std.specs.declared.cmp.Ordering.TheVariants.{Less}
 use Rattle.labels.specs.Images.{record_at, takes_record, takes_writing}
 use Rattle.labels.specs.declared.write.Form.{Form}
 
@@ -44,11 +44,11 @@ TrueFffd = (read_text (0xEF ∷ 0xBF ∷ 0xBD ∷ []) ≡ 0xFFFD ∷ []) × (ill
 
 -- "Numbers stand before code points"
 abbrev pub NumbersFirst : Type 0
-NumbersFirst = (n c : ℕ) (x y : List Item) → rank_items (number n ∷ x) (character c ∷ y) ≡ Before
+NumbersFirst = (n c : ℕ) (x y : List Item) → rank_items (number n ∷ x) (character c ∷ y) ≡ Less
 
 -- "a label whose items are the beginning of another's comes first"
 abbrev pub BeginningFirst : Type 0
-BeginningFirst = (x : List Item) (b : Item) (y : List Item) → rank_items x (x ++ b ∷ y) ≡ Before
+BeginningFirst = (x : List Item) (b : Item) (y : List Item) → rank_items x (x ++ b ∷ y) ≡ Less
 
 -- "Reading one record judges it alone": the other records may hold anything
 abbrev pub JudgedAlone : Type 0

@@ -187,3 +187,8 @@ module _ (f : Form) where
 
   pub taken_next : (text : List ℕ) (at : ℕ) → at < length text → {r : Taken} → r ≡ taken_in f (pieces_in f (drop at text)) → Next text at r
   taken_next text at h q = rw q (taken-pieces text at h (pieces_in f (drop at text)) refl)
+
+-- the same where the code has n units of a type of its own
+pub taken-within : (f : Form) (units : List ℕ) {at n : ℕ} {r : Taken} → length units ≡ n → at < n → r ≡ taken_in f (pieces_in f (drop at units))
+    → Next f units at r
+taken-within f units {at} long h q = taken_next f units at (omega arith) q

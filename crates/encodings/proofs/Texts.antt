@@ -9,7 +9,7 @@
 use mathlib.Core.Path.{◌≡◌, sym, ◌∙◌, ap}
 use mathlib.Core.Bool.{false}
 use mathlib.Core.List.{List, [], ◌∷◌, ◌++◌}
-use Prim.Native.Nat.{ℕ, ◌+◌, ◌≤◌, ◌<◌}
+use Prim.Native.Nat.{ℕ, ◌+◌, ◌*◌, ◌≤◌, ◌<◌}
 use native.Mathlib.Omega.{arith}
 use lib.Dec.{leb}
 use lib.ListN.{length, length-append}
@@ -18,7 +18,7 @@ use Rattle.laws.specs.Lists.{All, none, also}
 use Rattle.laws.specs.Writing.{Room, fitted, Wrote}
 use Rattle.laws.proofs.Bools.{test}
 use Rattle.laws.proofs.Filling.{fitted-all, fitted_none, fitted-nil}
-use Rattle.laws.proofs.Lists.{each_nil, each-cons}
+use Rattle.laws.proofs.Lists.{each_nil, each-cons, length-each-most}
 use Rattle.answers.specs.Checks.{passes, takes_text, takes_units, bad}
 use Rattle.answers.proofs.Checks.{good-high, good-taken, units-short}
 use Rattle.encodings.specs.Pieces.{full, Piece, good, ill, ill_count}
@@ -134,3 +134,13 @@ module _ {f : Form} (enc : Encodes f) where
 
   pub write_read : (t : List ℕ) → ill_in f t ≡ 0 → write_in f (read_in f t) ≡ t
   write_read t e = reading-units (reading-in t) e
+
+-- ---- at most n units a code point
+
+module _ (f : Form) {n : ℕ} (few : (c : ℕ) → length (f.units c) ≤ n) where
+  pub write-most : (x : List ℕ) → length (write_in f x) ≤ n * length x
+  write-most x = length-each-most f.units n few x
+
+  -- and n is at most four
+  pub write-short : n ≤ 4 → (x : List ℕ) → length (write_in f x) ≤ 4 * length x
+  write-short h x = length-each-most f.units 4 (λ c. omega (arith, few c)) x

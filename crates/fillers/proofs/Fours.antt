@@ -12,6 +12,7 @@ use native.Mathlib.Omega.{arith}
 use lib.Dec.{eqb}
 use lib.ListN.{length, get_or, drop, length-drop}
 use borrow.Author.Tests.{eqb-true, eqb-false}
+use Rattle.std.specs.Prelude.{Some, None}
 use Rattle.laws.proofs.Lists.{four-at}
 use Rattle.letters.specs.Syllables.{is_syllable}
 use Rattle.letters.proofs.Steps.{syllable, syllable-made}
@@ -107,7 +108,7 @@ few (d ∷ a ∷ b ∷ []) h = refl
 few (d ∷ a ∷ b ∷ c ∷ x) h = absurd (omega arith)
 
 module _ (text : List ℕ) (at : ℕ) where
-  pub short-here : length text - at < 4 → 0 ≡ syllable_in (group_at (drop at text))
+  pub short-here : length text - at < 4 → None ≡ syllable_in (group_at (drop at text))
   short-here h = sym (ap syllable_in (few (drop at text) (simp length-drop h)))
 
   -- the four from the index on
@@ -115,8 +116,8 @@ module _ (text : List ℕ) (at : ℕ) where
   GroupHere s = Group (get_or text at 0) (get_or text (at + 1) 0) (get_or text (at + 2) 0) (get_or text (at + 3) 0) s
 
   module _ (long : 4 ≤ length text - at) where
-    pub no-group-here : ((s : ℕ) → GroupHere s → ⊥) → 0 ≡ syllable_in (group_at (drop at text))
+    pub no-group-here : ((s : ℕ) → GroupHere s → ⊥) → None ≡ syllable_in (group_at (drop at text))
     no-group-here n = sym (ap syllable_in (ap group_at (four-at 0 text at (omega arith)) ∙ (group-otherwise _ _ _ _).1 n))
 
-    pub group-here : {s : ℕ} → GroupHere s → s ≡ syllable_in (group_at (drop at text))
+    pub group-here : {s : ℕ} → GroupHere s → Some s ≡ syllable_in (group_at (drop at text))
     group-here {s} g = sym (ap syllable_in (ap group_at (four-at 0 text at (omega arith)) ∙ (group-exactly _ _ _ _ s).1 g))

@@ -1,20 +1,23 @@
 -- Laws of the letters of KS X 1001: I, P and F of one code point. In order: by its range; as the
 -- code reads them from its table; the filler is no initial and no peak; their bounds; what 99, and
--- any other number, says of what was read; the most that is read.
+-- any other number, says of what was read; what is as_answer, and its most.
 use mathlib.Core.Path.{◌≡◌, refl, sym, ◌∙◌, ap}
 use mathlib.Core.Bool.{Bool, true, false, cond}
-use mathlib.Core.Option.{Option, none, some}
+use mathlib.Core.Option.{Option, none, some, none-ne-some}
 use mathlib.Core.List.{List}
 use Prim.Native.Nat.{ℕ, ◌+◌, ◌-◌, ◌*◌, ◌≤◌, ◌<◌}
 use native.Mathlib.Omega.{arith}
 use lib.Dec.{T, eqb, ltb}
 use lib.ListN.{get_or}
 use borrow.Author.Tests.{eq-eqb, ne_eqb, lt-ltb, ltb-true}
+use Rattle.std.specs.Prelude.{Some, None}
+use Rattle.std.proofs.lemmas.Option.{none-some, same_Some}
 use Rattle.laws.specs.Ranges.{within}
 use Rattle.laws.proofs.Bools.{T_true, true-T}
 use Rattle.laws.proofs.Ranges.{within-yes, within-below, within-above, within-least, within-most}
 use Rattle.fillers.specs.Groups.{initial, pairs, initial_in, final_in, as_initial, as_peak, as_final}
-use Rattle.fillers.specs.Inner.{or_none, Pairs}
+use Rattle.laws.specs.Options.{as_answer}
+use Rattle.fillers.specs.Inner.{or_none, number_or_none, Pairs}
 use Rattle.fillers.proofs.Table.{below, initials-below, finals-below}
 
 -- ---- by the range
@@ -63,10 +66,10 @@ module _ (c : ℕ) where
 -- ---- as the code reads them from its table
 
 module _ {table : List ℕ} (right : Pairs table) (c : ℕ) (least : 0x3131 ≤ c) (most : c ≤ 0x314E) where
-  pub initial-read : get_or table (2 * (c - 0x3131)) 0 ≡ or_none (as_initial c)
+  initial-read : get_or table (2 * (c - 0x3131)) 0 ≡ or_none (as_initial c)
   initial-read = right.initials (c - 0x3131) (omega arith) ∙ sym (ap or_none (initial-inside c least most))
 
-  pub final-read : get_or table (2 * (c - 0x3131) + 1) 0 ≡ or_none (as_final c)
+  final-read : get_or table (2 * (c - 0x3131) + 1) 0 ≡ or_none (as_final c)
   final-read = right.finals (c - 0x3131) (omega arith) ∙ sym (ap or_none (final-inside c least most))
 
 -- ---- the filler is no initial and no peak
@@ -109,24 +112,32 @@ below-some n o {k} t e = ltb-true k n (T_true (ltb k n) (rw e at t))
 
 -- ---- what a number that was read says: 99 that there is none, any other that it is there
 
-pub read_none : (n : ℕ) (o : Option ℕ) → T (below n o) → n ≤ 99 → {r k : ℕ} → r ≡ or_none o → r ≡ 99 → o ≡ some k → ⊥
-read_none n o small few e q w = omega (arith, below-some n o small w, ap or_none w)
+listed-right : (n : ℕ) (o : Option ℕ) → T (below n o) → n ≤ 99 → number_or_none (or_none o) ≡ as_answer o
+listed-right n none small few = refl
+listed-right n (some k) small few = let other : k ≡ 99 → ⊥ = λ e. omega (arith, e, below-some n (some k) small refl) in simp (ne_eqb k 99 other)
 
-pub read_some : (o : Option ℕ) {r : ℕ} → r ≡ or_none o → (r ≡ 99 → ⊥) → o ≡ some r
-read_some none e n = absurd (n e)
-read_some (some k) e n = rw e
+module _ {table : List ℕ} (right : Pairs table) (c : ℕ) (least : 0x3131 ≤ c) (most : c ≤ 0x314E) where
+  pub initial-listed : number_or_none (get_or table (2 * (c - 0x3131)) 0) ≡ as_answer (as_initial c)
+  initial-listed = ap number_or_none (initial-read right c least most) ∙ listed-right 19 (as_initial c) (initial-below c) (omega arith)
 
--- and what was read is small, so that the code's sum fits
-read-most : (n : ℕ) (o : Option ℕ) → T (below n o) → n ≤ 99 → or_none o ≤ 99
-read-most n none t few = omega arith
-read-most n (some k) t few = omega (arith, below-some n (some k) t refl)
+  pub final-listed : number_or_none (get_or table (2 * (c - 0x3131) + 1) 0) ≡ as_answer (as_final c)
+  final-listed = ap number_or_none (final-read right c least most) ∙ listed-right 28 (as_final c) (final-below c) (omega arith)
+
+-- a number that was as_answer is there, and is small, so that the code's sum fits
+pub as_answer-some : (o : Option ℕ) {r : ℕ} → Some r ≡ as_answer o → o ≡ some r
+as_answer-some none e = absurd (none-some _ (sym e))
+as_answer-some (some k) e = ap some (sym (same_Some _ _ e))
+
+pub as_answer-none : (o : Option ℕ) {k : ℕ} → None ≡ as_answer o → o ≡ some k → ⊥
+as_answer-none none e w = none-ne-some _ w
+as_answer-none (some k) e w = none-some _ e
 
 module _ (c : ℕ) {r : ℕ} where
-  pub initial-most : r ≡ or_none (as_initial c) → r ≤ 99
-  initial-most e = rw e (read-most 19 (as_initial c) (initial-below c) (omega arith))
+  pub initial-most : Some r ≡ as_answer (as_initial c) → r < 19
+  initial-most e = below-some 19 (as_initial c) (initial-below c) (as_answer-some (as_initial c) e)
 
-  pub peak-most : r ≡ or_none (as_peak c) → r ≤ 99
-  peak-most e = rw e (read-most 21 (as_peak c) (peak-below c) (omega arith))
+  pub peak-most : Some r ≡ as_answer (as_peak c) → r < 21
+  peak-most e = below-some 21 (as_peak c) (peak-below c) (as_answer-some (as_peak c) e)
 
-  pub final-most : r ≡ or_none (as_final c) → r ≤ 99
-  final-most e = rw e (read-most 28 (as_final c) (final-below c) (omega arith))
+  pub final-most : Some r ≡ as_answer (as_final c) → r < 28
+  final-most e = below-some 28 (as_final c) (final-below c) (as_answer-some (as_final c) e)

@@ -10,13 +10,15 @@ use Prim.Native.Nat.{ℕ, ◌+◌, ◌*◌, ◌≤◌, ◌<◌}
 use native.Mathlib.Omega.{arith}
 use lib.ListN.{length, get_or, drop, length-drop, drop_of_length-le}
 use lib.Seq.{drop-drop}
+use Rattle.std.specs.Prelude.{Some, None}
+use Rattle.std.proofs.lemmas.Option.{none-some, same_Some}
 use Rattle.laws.specs.Ranges.{within}
 use Rattle.laws.specs.Lists.{All, also}
 use Rattle.laws.proofs.Lists.{at-index, all_right}
 use Rattle.laws.proofs.Filling.{Piece, Filling, filling-count, filling-length}
 use Rattle.answers.specs.Checks.{bad}
 use Rattle.answers.proofs.Checks.{good-low}
-use Rattle.letters.proofs.Steps.{syllable-least, syllable-most}
+use Rattle.letters.proofs.Steps.{syllable-most}
 use Rattle.fillers.specs.Groups.{as_initial, as_peak, as_final, pairs, group_of, turned_by, turned}
 use Rattle.fillers.specs.Inner.{group_at, syllable_in}
 use Rattle.fillers.proofs.Fours.{Group, Meant, turns, stays, group-meant, made-syllable}
@@ -100,18 +102,18 @@ pub turned-no-final : turned (0x3164 ∷ 0x3131 ∷ 0x314F ∷ 0x3138 ∷ []) �
 unfolding turned group_of as_initial as_peak as_final pairs within
 turned-no-final = refl
 
--- ---- what the two loops ask: s is what the code found at an index, 0 where no group begins
+-- ---- what the two loops ask of what the code found at an index
 
-no-group-turned : (d : ℕ) (x : List ℕ) → 0 ≡ syllable_in (group_at (d ∷ x)) → turned (d ∷ x) ≡ d ∷ turned x
+no-group-turned : (d : ℕ) (x : List ℕ) → None ≡ syllable_in (group_at (d ∷ x)) → turned (d ∷ x) ≡ d ∷ turned x
 unfolding turned
 no-group-turned d [] e = refl
 no-group-turned d (a ∷ []) e = refl
 no-group-turned d (a ∷ b ∷ []) e = refl
 no-group-turned d (a ∷ b ∷ c ∷ x) e = by (group_of d a b c) (group-meant d a b c) e
   where
-    by : (o : Option (List ℕ)) → Meant d a b c o → 0 ≡ syllable_in o
+    by : (o : Option (List ℕ)) → Meant d a b c o → None ≡ syllable_in o
         → turned_by o d (turned x) (turned (a ∷ b ∷ c ∷ x)) ≡ d ∷ turned (a ∷ b ∷ c ∷ x)
-    by _ (turns {s} g) e = absurd (omega (arith, syllable-least s (made-syllable g)))
+    by _ (turns g) e = absurd (none-some _ e)
     by _ (stays n) e = refl
 
 -- a group found is four code points long, and the search goes on after them
@@ -119,29 +121,30 @@ record Begins (s : ℕ) (x : List ℕ) : Type 0 where
   long : 4 ≤ length x
   after : turned x ≡ s ∷ turned (drop 4 x)
 
-group-begins : {s : ℕ} → (s ≡ 0 → ⊥) → (x : List ℕ) → s ≡ syllable_in (group_at x) → Begins s x
+group-begins : {s : ℕ} (x : List ℕ) → Some s ≡ syllable_in (group_at x) → Begins s x
 unfolding turned
-group-begins n [] e = absurd (n e)
-group-begins n (d ∷ []) e = absurd (n e)
-group-begins n (d ∷ a ∷ []) e = absurd (n e)
-group-begins n (d ∷ a ∷ b ∷ []) e = absurd (n e)
-group-begins {s} n (d ∷ a ∷ b ∷ c ∷ x) e = record { long = omega arith; after = by (group_of d a b c) (group-meant d a b c) e }
+group-begins [] e = absurd (none-some _ (sym e))
+group-begins (d ∷ []) e = absurd (none-some _ (sym e))
+group-begins (d ∷ a ∷ []) e = absurd (none-some _ (sym e))
+group-begins (d ∷ a ∷ b ∷ []) e = absurd (none-some _ (sym e))
+group-begins {s} (d ∷ a ∷ b ∷ c ∷ x) e = record { long = omega arith; after = by (group_of d a b c) (group-meant d a b c) e }
   where
-    by : (o : Option (List ℕ)) → Meant d a b c o → s ≡ syllable_in o → turned_by o d (turned x) (turned (a ∷ b ∷ c ∷ x)) ≡ s ∷ turned x
-    by _ (turns g) e = rw e
-    by _ (stays m) e = absurd (n e)
+    by : (o : Option (List ℕ)) → Meant d a b c o → Some s ≡ syllable_in o → turned_by o d (turned x) (turned (a ∷ b ∷ c ∷ x)) ≡ s ∷ turned x
+    by _ (turns g) e = rw (same_Some _ _ e)
+    by _ (stays m) e = absurd (none-some _ (sym e))
 
-module _ (text : List ℕ) (read : ℕ) (inside : read < length text) {s : ℕ} (found : s ≡ syllable_in (group_at (drop read text))) where
-  pub copied-piece : s ≡ 0 → Piece (turned (drop read text)) (get_or text read 0 ∷ []) (turned (drop (read + 1) text))
-  copied-piece e =
+module _ (text : List ℕ) (read : ℕ) (inside : read < length text) where
+  pub copied-piece : None ≡ syllable_in (group_at (drop read text)) → Piece (turned (drop read text)) (get_or text read 0 ∷ []) (turned (drop (read + 1) text))
+  copied-piece found =
       let next : drop read text ≡ get_or text read 0 ∷ drop (read + 1) text = at-index 0 text read inside in
-      record { eq = rw next (no-group-turned (get_or text read 0) (drop (read + 1) text) (rw next at (sym e ∙ found))) }
+      record { eq = rw next (no-group-turned (get_or text read 0) (drop (read + 1) text) (rw next at found)) }
 
-  pub group-piece : (s ≡ 0 → ⊥) → Piece (turned (drop read text)) (s ∷ []) (turned (drop (read + 4) text))
-  group-piece n = record { eq = (group-begins n (drop read text) found).after ∙ rw drop-drop }
+  module _ {s : ℕ} (found : Some s ≡ syllable_in (group_at (drop read text))) where
+    pub group-piece : Piece (turned (drop read text)) (s ∷ []) (turned (drop (read + 4) text))
+    group-piece = record { eq = (group-begins (drop read text) found).after ∙ rw drop-drop }
 
-  pub group-inside : (s ≡ 0 → ⊥) → read + 4 ≤ length text
-  group-inside n = omega (arith, simp length-drop at (group-begins n (drop read text) found).long)
+    pub group-inside : read + 4 ≤ length text
+    group-inside = omega (arith, simp length-drop at (group-begins (drop read text) found).long)
 
 -- what is written is at most as long as the text; and while something is left to be read, there is
 -- a place left to write to

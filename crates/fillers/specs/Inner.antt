@@ -1,6 +1,7 @@
--- What the functions inside this crate ask and promise: a number for none, a table of numbers, the
--- syllable of a group or 0. The groups stand in specs/Groups.
-use Rattle.std.specs.Prelude.{◌≡◌, List, [], ◌∷◌, ℕ, ◌+◌, ◌*◌, ◌<◌, length, get_or}
+-- What the functions inside this crate promise: a table of numbers in which one stands for none,
+-- and the syllable of a group. The groups stand in
+-- specs/Groups.
+use Rattle.std.specs.Prelude.{Option as Answer, Some, None, ◌≡◌, cond, List, [], ◌∷◌, ℕ, ◌+◌, ◌*◌, ◌<◌, eqb, length, get_or}
 use Rattle.std.proofs.Math.Option.{Option, none, some}
 use Rattle.fillers.specs.Groups.{pairs, initial, initial_in, final_in, group_of}
 
@@ -8,6 +9,10 @@ use Rattle.fillers.specs.Groups.{pairs, initial, initial_in, final_in, group_of}
 abbrev pub or_none : Option ℕ → ℕ
 or_none none = 99
 or_none (some n) = n
+
+-- and what a number says that was read
+abbrev pub number_or_none : ℕ → Answer ℕ
+number_or_none n = cond (eqb n 99) None (Some n)
 
 -- the table has I and F of each pair, in order
 pub record Pairs (table : List ℕ) : Type 0 where
@@ -23,7 +28,7 @@ group_at (d ∷ a ∷ []) = none
 group_at (d ∷ a ∷ b ∷ []) = none
 group_at (d ∷ a ∷ b ∷ c ∷ x) = group_of d a b c
 
--- its syllable, or 0
-abbrev pub syllable_in : Option (List ℕ) → ℕ
-syllable_in none = 0
-syllable_in (some meaning) = get_or meaning 0 0
+-- its syllable
+abbrev pub syllable_in : Option (List ℕ) → Answer ℕ
+syllable_in none = None
+syllable_in (some meaning) = Some (get_or meaning 0 0)

@@ -1,8 +1,10 @@
 -- Laws of two neighbours, whatever the two numbers are. THE PAIR LAW: a and b join to s exactly
 -- where the one step of s is a and b.
 --
--- In order: by roles (`pair-as`, `pair-lv`, `pair-lvt`, `by-pair`, `pair-other`, `pair-before`,
--- `pair-firm`, `pair-after`, `pair-none`); by numbers (`two-letters`, `lv-letter`,
+-- In order: a number as an option (`none-nonzero`, `some-nonzero`, `nonzero-none`, `nonzero-some`,
+-- `nonzero-not`); by roles (`pair-as`, `pair-lv`, `pair-lvt`, `by-pair`, `pair-other`,
+-- `pair-before`, `pair-firm`, `pair-after`, `pair-none`); what the code answers (`joins-none`,
+-- `joins-some`, `joins-lv`, `joins-lvt`); by numbers (`two-letters`, `lv-letter`,
 -- `three-letters`); what two that join make (`lv-made`, `lvt-made`, `pair-syllable`, `pair-good`);
 -- the pair law (`pair_step`, `step-pair`, `pair-law`, `by_parts`, `pair_parts`); what joins with
 -- nothing more (`lvt-closed`, `no-fourth`, `a7-no-final`, `new_apart`).
@@ -12,9 +14,12 @@ use mathlib.Core.Logic.{◌↔◌}
 use mathlib.Core.List.{[], ◌∷◌, ◌++◌, append-nil}
 use Prim.Native.Nat.{ℕ, ◌+◌, ◌-◌, ◌*◌, ◌≤◌, ◌<◌}
 use native.Mathlib.Omega.{arith}
-use lib.Dec.{T}
+use lib.Dec.{T, eqb}
 use lib.ListN.{length}
+use borrow.Author.Tests.{ne_eqb, eqb-true, eqb-false}
+use Rattle.std.specs.Prelude.{Some, None as Nothing}
 use Rattle.laws.specs.Lists.{each}
+use Rattle.laws.proofs.Bools.{test}
 use Rattle.answers.specs.Checks.{bad}
 use Rattle.answers.proofs.Checks.{good-low}
 use Rattle.letters.specs.declared.sort.Sort.TheVariants.{Lvt}
@@ -25,8 +30,32 @@ use Rattle.letters.proofs.FullParts.{full-of-step}
 use Rattle.letters.proofs.Counts.{known_before}
 use Rattle.joining.specs.declared.role.Role.{Role}
 use Rattle.joining.specs.declared.role.Role.TheVariants.{Initial as RoleInitial, Peak, Final, Lv as RoleLv, None}
-use Rattle.joining.specs.Roles.{role_in, role_of, pair_as, pair}
+use Rattle.joining.specs.Roles.{role_in, role_of, pair_as, pair, nonzero, joins}
 use Rattle.joining.proofs.Roles.{role-between, role-initial, role-peak, role-final, role-lv, role-lvt, initial-range, peak-range, final-range, lv-syllable, lv-final, new_none, firm, hard-as}
+
+-- ---- a number as an option: none if it is 0, else some
+
+pub none-nonzero : {n : ℕ} → n ≡ 0 → Nothing ≡ nonzero n
+unfolding nonzero
+none-nonzero z = rw z
+
+pub some-nonzero : {n s : ℕ} → s ≡ n → (n ≡ 0 → ⊥) → Some s ≡ nonzero n
+unfolding nonzero
+some-nonzero {n} e m = rw (ne_eqb n 0 m, e)
+
+-- by cases on the number
+by-nonzero : {G : Type 0} (n : ℕ) → (n ≡ 0 → nonzero n ≡ Nothing → G) → ((n ≡ 0 → ⊥) → nonzero n ≡ Some n → G) → G
+by-nonzero n none some =
+    test (eqb n 0) (λ e. none (eqb-true n 0 e) (sym (none-nonzero (eqb-true n 0 e)))) (λ e. some (eqb-false n 0 e) (sym (some-nonzero refl (eqb-false n 0 e))))
+
+pub nonzero-none : (n : ℕ) → Nothing ≡ nonzero n → n ≡ 0
+nonzero-none n e = by-nonzero n (λ z m. z) (λ z m. absurd (cc))
+
+pub nonzero-some : (n : ℕ) {s : ℕ} → Some s ≡ nonzero n → s ≡ n
+nonzero-some n e = by-nonzero n (λ z m. absurd (cc)) (λ z m. cc)
+
+pub nonzero-not : (n : ℕ) {s : ℕ} → Some s ≡ nonzero n → s ≡ 0 → ⊥
+nonzero-not n e h = by-nonzero n (λ z m. cc) (λ z m. z (cc))
 
 -- ---- by roles
 
@@ -75,6 +104,21 @@ module _ (a b : ℕ) where
 
   pub pair-none : role_of a ≡ None → pair a b ≡ 0
   pair-none p = pair-as p refl
+
+-- THE PROMISE OF `joining::role::joined`, and of the two ways to join
+pub joins-none : (a b : ℕ) → (joins a b ≡ Nothing) ↔ (pair a b ≡ 0)
+joins-none a b = ((λ e. nonzero-none (pair a b) (sym e)), (λ z. sym (none-nonzero z)))
+
+pub joins-some : (a b s : ℕ) → (joins a b ≡ Some s) ↔ ((s ≡ pair a b) × (pair a b ≡ 0 → ⊥))
+joins-some a b s =
+    ((λ e. (nonzero-some (pair a b) (sym e), λ z. nonzero-not (pair a b) (sym e) (nonzero-some (pair a b) (sym e) ∙ z))), (λ h. sym (some-nonzero h.0 h.1)))
+
+module _ (a b : ℕ) where
+  pub joins-lv : role_of a ≡ RoleInitial → role_of b ≡ Peak → Some (0xAC00 + (a - 0x1100) * 588 + (b - 0x1161) * 28) ≡ joins a b
+  joins-lv p q = some-nonzero (sym (pair-lv a b p q)) (λ z. omega (arith, pair-lv a b p q))
+
+  pub joins-lvt : role_of a ≡ RoleLv → role_of b ≡ Final → Some (a + (b - 0x11A7)) ≡ joins a b
+  joins-lvt p q = some-nonzero (sym (pair-lvt a b p q)) (λ z. omega (arith, pair-lvt a b p q, final-range b q))
 
 -- ---- by numbers: two letters at a time, and three
 

@@ -1,6 +1,6 @@
 -- Roles: document 01, 'Syllables'. What a code point is to the joiner; which two neighbours join,
 -- and to what; the code points that join with nothing before them.
-use Rattle.std.specs.Prelude.{◌≡◌, ℕ, ◌+◌, ◌-◌, ◌*◌}
+use Rattle.std.specs.Prelude.{◌≡◌, cond, Option, Some, None as Nothing, ℕ, ◌+◌, ◌-◌, ◌*◌, eqb}
 use Rattle.letters.specs.Sorts.{sort_of}
 use Rattle.letters.specs.declared.sort.Sort.{Sort}
 use Rattle.letters.specs.declared.sort.Sort.TheVariants.{ModernInitial, OldInitial, InitialFiller, PeakFiller, ModernPeak, OldPeak, ModernFinal, OldFinal, Lv as SortLv, Lvt, Other}
@@ -47,6 +47,14 @@ pair_as None r a b = 0
 
 unfoldable pub pair : ℕ → ℕ → ℕ
 pair a b = pair_as (role_of a) (role_of b) a b
+
+-- a number that says by 0 that there is none, as an option
+unfoldable pub nonzero : ℕ → Option ℕ
+nonzero n = cond (eqb n 0) Nothing (Some n)
+
+-- what two neighbours join to, if they join
+abbrev pub joins : ℕ → ℕ → Option ℕ
+joins a b = nonzero (pair a b)
 
 -- ---- what joins with nothing before it
 

@@ -3,13 +3,14 @@
 ghost use Rattle.laws.specs.Writing.{fitted, Wrote};
 ghost use Rattle.joining.specs.Answers.{emitted, Stepped};
 ghost use Rattle.std.specs.Prelude.{◌≡◌, ◌++◌};
+ghost use Rattle.joining.specs.Roles.{nonzero};
 ghost use Rattle.joining.specs.Joining.{opens, held, meets, unless};
 ghost use Rattle.joining.specs.declared.joiner.Open.TheVariants.{Nothing};
 
 use crate::role::Role;
 
 // What is still open: nothing, an initial, or an LV.
-#[derive(Clone, Copy)]
+#[derive(Clone, Copy, Debug, PartialEq, Eq)]
 pub enum Open {
     Nothing,
     Initial(u32),
@@ -17,13 +18,13 @@ pub enum Open {
 }
 
 // The joiner carries what is open.
-#[derive(Clone, Copy)]
+#[derive(Clone, Copy, Debug, PartialEq, Eq)]
 pub struct Joiner {
     pub state: Open,
 }
 
 // What a step writes: at most two code points.
-#[derive(Clone, Copy)]
+#[derive(Clone, Copy, Debug, PartialEq, Eq)]
 pub enum Emitted {
     Empty,
     One(u32),
@@ -31,7 +32,7 @@ pub enum Emitted {
 }
 
 // A step's answer: the joiner after it, and what it writes.
-#[derive(Clone, Copy)]
+#[derive(Clone, Copy, Debug, PartialEq, Eq)]
 pub struct Outcome {
     pub joiner: Joiner,
     pub out: Emitted,
@@ -79,12 +80,12 @@ fn opened(code: u32) -> Open
     }
 }
 
-// What is open and the next code point join to, or 0.
-fn met(state: Open, code: u32) -> u32
-    ensures { result ≡ meets state code }
+// What is open and the next code point join to, if they join.
+fn met(state: Open, code: u32) -> Option<u32>
+    ensures { result ≡ nonzero (meets state code) }
 {
     match state {
-        Open::Nothing => 0,
+        Open::Nothing => None,
         Open::Initial(initial) => crate::role::joined(initial, code),
         Open::Lv(syllable) => crate::role::joined(syllable, code),
     }
@@ -144,18 +145,21 @@ pub fn step(joiner: Joiner, code: u32) -> Outcome
     ensures { Stepped joiner.state code result }
 {
     let state = joiner.state;
-    let syllable = met(state, code);
-    if syllable == 0 {
-        let next = opened(code);
-        return Outcome {
-            joiner: Joiner { state: next },
-            out: parted(state, next, code),
-        };
-    }
-    let made = opened(syllable);
-    Outcome {
-        joiner: Joiner { state: made },
-        out: united(made, syllable),
+    match met(state, code) {
+        Some(syllable) => {
+            let made = opened(syllable);
+            Outcome {
+                joiner: Joiner { state: made },
+                out: united(made, syllable),
+            }
+        }
+        None => {
+            let next = opened(code);
+            Outcome {
+                joiner: Joiner { state: next },
+                out: parted(state, next, code),
+            }
+        }
     }
 }
 

@@ -1,9 +1,9 @@
 // What a code point is to the joiner, and what two neighbours join to (document 01, 'Syllables').
 ghost use Rattle.std.specs.Prelude.{◌≡◌};
-ghost use Rattle.joining.specs.Roles.{role_of, pair, pair_as};
+ghost use Rattle.joining.specs.Roles.{role_of, joins};
 ghost use Rattle.joining.specs.declared.role.Role.TheVariants.{Peak, Final};
 
-#[derive(Clone, Copy)]
+#[derive(Clone, Copy, Debug, PartialEq, Eq)]
 pub enum Role {
     Initial,
     Peak,
@@ -33,46 +33,35 @@ pub fn role_of(code: u32) -> Role
     }
 }
 
-// What stands before a peak and the peak join to, or 0.
-fn before_peak(first: u32, peak: u32) -> u32
+// What stands before a peak and the peak join to, if they join.
+fn before_peak(first: u32, peak: u32) -> Option<u32>
     requires { role_of peak ≡ Peak }
-    ensures { result ≡ pair first peak }
+    ensures { result ≡ joins first peak }
 {
-    let role = role_of(first);
-    match role {
-        Role::Initial => 0xAC00 + (first - 0x1100) * 588 + (peak - 0x1161) * 28,
-        Role::Peak => 0,
-        Role::Final => 0,
-        Role::Lv => 0,
-        Role::None => 0,
+    match role_of(first) {
+        Role::Initial => Some(0xAC00 + (first - 0x1100) * 588 + (peak - 0x1161) * 28),
+        _ => None,
     }
 }
 
-// What stands before a final and the final join to, or 0.
-fn before_final(first: u32, last: u32) -> u32
+// What stands before a final and the final join to, if they join.
+fn before_final(first: u32, last: u32) -> Option<u32>
     requires { role_of last ≡ Final }
-    ensures { result ≡ pair first last }
+    ensures { result ≡ joins first last }
 {
-    let role = role_of(first);
-    match role {
-        Role::Lv => first + (last - 0x11A7),
-        Role::Initial => 0,
-        Role::Peak => 0,
-        Role::Final => 0,
-        Role::None => 0,
+    match role_of(first) {
+        Role::Lv => Some(first + (last - 0x11A7)),
+        _ => None,
     }
 }
 
-// What two neighbours join to, or 0 if they do not join.
-pub fn joined(first: u32, second: u32) -> u32
-    ensures { result ≡ pair first second }
+// What two neighbours join to, if they join.
+pub fn joined(first: u32, second: u32) -> Option<u32>
+    ensures { result ≡ joins first second }
 {
-    let role = role_of(second);
-    match role {
+    match role_of(second) {
         Role::Peak => before_peak(first, second),
         Role::Final => before_final(first, second),
-        Role::Initial => 0,
-        Role::Lv => 0,
-        Role::None => 0,
+        _ => None,
     }
 }

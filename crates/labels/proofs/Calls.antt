@@ -1,8 +1,8 @@
 -- What the calls of the label file promise, from their contracts: `Finds` for one record, `Judges`
 -- for a whole image, `Writes` for writing.
 --
--- In order: ANY TWO RESULTS ARE EQUAL (`found-injective`, `finds-unique`, `judged-injective`,
--- `judges-unique`, `writes-unique`); the checks of an image depend on its length only (`same_over`,
+-- In order: ANY TWO RESULTS ARE EQUAL (`finds-unique`, `judged-injective`, `judges-unique`,
+-- `writes-unique`); the checks of an image depend on its length only (`same_over`,
 -- `same_number`); what a writing that passes its checks says; A WRITTEN RECORD IS READ AGAIN
 -- (`read-written`); A RECORD THAT WAS READ AND IS WRITTEN AGAIN CHANGES NOTHING (`written_back`);
 -- THE OTHER RECORDS ARE KEPT (`writes-length`, `others-kept`); two spellings of one text are stored
@@ -15,14 +15,14 @@ use native.Mathlib.Omega.{arith}
 use lib.Dec.{leb, eqb}
 use lib.ListN.{length, take, drop, take-append-drop}
 use borrow.Author.Tests.{leb-true, le-leb, eqb-true, eq-eqb}
+use Rattle.std.specs.Prelude.{Result, Ok, Err}
 use Rattle.laws.specs.Lists.{All}
 use Rattle.laws.specs.Writing.{front}
 use Rattle.laws.proofs.Bools.{and_left, and_right}
 use Rattle.laws.proofs.Lists.{all_left, all_right}
 use Rattle.answers.specs.Checks.{Check, passes, refuses, in_order, takes_bytes}
-use Rattle.answers.specs.declared.answer.Checked.{Checked}
-use Rattle.answers.specs.declared.answer.Checked.TheVariants.{Passed}
-use Rattle.answers.proofs.Answers.{refused_by-injective, checked-injective}
+use Rattle.answers.specs.declared.refusal.Refusal.{Refusal}
+use Rattle.answers.proofs.Answers.{refused_by-injective, answered-injective, checked-injective}
 use Rattle.answers.proofs.Checks.{units-taken}
 use Rattle.answers.proofs.Verdicts.{filled-whole, fills-unique, fills-done, fills-front}
 use Rattle.answers.proofs.Orders.{order-first, order-rest, passes-true}
@@ -32,12 +32,10 @@ use Rattle.utf8.proofs.Round.{encodes8}
 use Rattle.mending.proofs.Round.{mended-ills}
 use Rattle.mending.proofs.Same.{same-mended}
 use Rattle.labels.specs.Records.{record_of, object_of, berth_of, label_of, entry_of}
-use Rattle.labels.specs.Images.{record_at, replaced, over_image, no_record, takes_record, found_as, Finds, judged_as, named_by, Judges, stored, no_label, takes_writing, changed, Writes}
+use Rattle.labels.specs.Images.{record_at, replaced, over_image, no_record, takes_record, Finds, judged_as, named_by, Judges, stored, no_label, takes_writing, changed, Writes}
 use Rattle.labels.specs.declared.record.Entry.{Entry}
-use Rattle.labels.specs.declared.read.Found.{Found}
-use Rattle.labels.specs.declared.read.Found.TheVariants.{Record, Refused as FoundRefused}
-use Rattle.labels.specs.declared.image.Judged.{Judged}
-use Rattle.labels.specs.declared.image.Judged.TheVariants.{Records, Refused, BadRecord}
+use Rattle.labels.specs.declared.image.ImageRefusal.{ImageRefusal}
+use Rattle.labels.specs.declared.image.ImageRefusal.TheVariants.{Refused, BadRecord}
 use Rattle.labels.specs.declared.write.Form.{Form}
 use Rattle.labels.specs.declared.write.Form.TheVariants.{AsGiven, Joined}
 use Rattle.labels.proofs.Records.{record-length, record-object, record-berth, record-size, record-label}
@@ -47,38 +45,34 @@ use Rattle.labels.proofs.Finding.{taken-inside, taken-layout, taken-short, taken
 
 -- ---- ANY TWO RESULTS ARE EQUAL
 
--- an answer about one record is known by its verdict
-pub found-injective : (a b : Found) → found_as a ≡ found_as b → a ≡ b
-found-injective (Record m) (Record n) e = cc
-found-injective (Record m) (FoundRefused s) e = cc
-found-injective (FoundRefused r) (Record n) e = cc
-found-injective (FoundRefused r) (FoundRefused s) e = ap FoundRefused (refused_by-injective r s e)
-
 -- reading one record: one answer, and one buffer afterwards
-pub finds-unique : (image : List ℕ) (k : ℕ) (out : List ℕ) {r s : Found} {o p : List ℕ} → Finds image k out r o → Finds image k out s p
+pub finds-unique : (image : List ℕ) (k : ℕ) (out : List ℕ) {r s : Result Entry Refusal} {o p : List ℕ} → Finds image k out r o → Finds image k out s p
     → (r ≡ s) × (o ≡ p)
 finds-unique image k out f g =
     let h = fills-unique f.fills g.fills in
-    (found-injective _ _ h.0, h.1)
+    (answered-injective _ _ h.0, h.1)
+
+abbrev refused_image : Refusal → Result ℕ ImageRefusal
+refused_image r = Err (Refused r)
 
 -- an answer about a whole image is known by its verdict and the record that it names
-pub judged-injective : (a b : Judged) → judged_as a ≡ judged_as b → named_by a ≡ named_by b → a ≡ b
-judged-injective (Records m) (Records n) e q = cc
-judged-injective (Records m) (Refused s) e q = cc
-judged-injective (Records m) (BadRecord k b) e q = cc
-judged-injective (Refused r) (Records n) e q = cc
-judged-injective (Refused r) (Refused s) e q = ap Refused (refused_by-injective r s e)
-judged-injective (Refused r) (BadRecord k b) e q = cc
-judged-injective (BadRecord k b) (Records n) e q = cc
-judged-injective (BadRecord k b) (Refused s) e q = cc
-judged-injective (BadRecord k b) (BadRecord j c) e q = cc
+pub judged-injective : (a b : Result ℕ ImageRefusal) → judged_as a ≡ judged_as b → named_by a ≡ named_by b → a ≡ b
+judged-injective (Ok m) (Ok n) e q = cc
+judged-injective (Ok m) (Err (Refused s)) e q = cc
+judged-injective (Ok m) (Err (BadRecord k b)) e q = cc
+judged-injective (Err (Refused r)) (Ok n) e q = cc
+judged-injective (Err (Refused r)) (Err (Refused s)) e q = ap refused_image (refused_by-injective r s e)
+judged-injective (Err (Refused r)) (Err (BadRecord k b)) e q = cc
+judged-injective (Err (BadRecord k b)) (Ok n) e q = cc
+judged-injective (Err (BadRecord k b)) (Err (Refused s)) e q = cc
+judged-injective (Err (BadRecord k b)) (Err (BadRecord j c)) e q = cc
 
 -- reading a whole image: one answer
-pub judges-unique : (image : List ℕ) {r s : Judged} → Judges image r → Judges image s → r ≡ s
+pub judges-unique : (image : List ℕ) {r s : Result ℕ ImageRefusal} → Judges image r → Judges image s → r ≡ s
 judges-unique image f g = judged-injective _ _ (f.answers ∙ sym g.answers) (f.names ∙ sym g.names)
 
 -- writing: one answer, and one image afterwards
-pub writes-unique : (image : List ℕ) (k object berth : ℕ) (form : Form) (label : List ℕ) {r s : Checked} {x y : List ℕ}
+pub writes-unique : (image : List ℕ) (k object berth : ℕ) (form : Form) (label : List ℕ) {r s : Result (Unit {0}) Refusal} {x y : List ℕ}
     → Writes image k object berth form label r x → Writes image k object berth form label s y → (r ≡ s) × (x ≡ y)
 writes-unique image k object berth form label f g =
     (checked-injective _ _ (f.answers ∙ sym g.answers), f.leaves ∙ sym g.leaves)
@@ -134,7 +128,7 @@ stored-formed Joined label e = mended-ills encodes8 label
 -- ---- A WRITTEN RECORD IS READ AGAIN
 
 module _ (image : List ℕ) (k object berth : ℕ) (form : Form) (label : List ℕ) {image' : List ℕ}
-    (w : Writes image k object berth form label Passed image') where
+    (w : Writes image k object berth form label (Ok tt) image') where
   done-passed : takes_writing image k form label ≡ passes
   done-passed = sym w.answers
 
@@ -179,14 +173,14 @@ module _ (image : List ℕ) (k object berth : ℕ) (form : Form) (label : List �
 
   -- after a writing that is done, reading that record gives the object, the berth and the length of
   -- what was stored, and fills the buffer with it if there is room (88 bytes are always enough)
-  pub read-written : object < 2 ^ 32 → berth < 2 ^ 16 → (out : List ℕ) → length (stored form label) ≤ length out → {r : Found} {out' : List ℕ}
+  pub read-written : object < 2 ^ 32 → berth < 2 ^ 16 → (out : List ℕ) → length (stored form label) ≤ length out → {r : Result Entry Refusal} {out' : List ℕ}
       → Finds image' k out r out'
-      → (r ≡ Record (record { object = object; berth = berth; length = length (stored form label) })) × (out' ≡ front (stored form label) out)
+      → (r ≡ Ok (record { object = object; berth = berth; length = length (stored form label) })) × (out' ≡ front (stored form label) out)
   read-written h b out room f =
-      let g : Finds image' k out (Record (entry_of (record_at image' k))) (front (label_of (record_at image' k)) out) =
+      let g : Finds image' k out (Ok (entry_of (record_at image' k))) (front (label_of (record_at image' k)) out) =
       record { fills = filled-whole done-taken (rw done-label room) refl } in
       let u = finds-unique image' k out f g in
-      (u.0 ∙ ap Record (done-entry h b), u.1 ∙ ap (λ (l : List ℕ). front l out) done-label)
+      (u.0 ∙ ap Ok (done-entry h b), u.1 ∙ ap (λ (l : List ℕ). front l out) done-label)
 
 -- ---- A RECORD THAT WAS READ AND IS WRITTEN AGAIN CHANGES NOTHING
 
@@ -221,11 +215,11 @@ module _ (image : List ℕ) (k : ℕ) (all : All (λ b. b < 256) image) (taken :
   back-image : replaced image k (record_of (object_of (record_at image k)) (berth_of (record_at image k)) (label_of (record_at image k))) ≡ image
   back-image = ap (replaced image k) back-record ∙ replaced-same image k (taken-inside image k taken)
 
-  back-writes : {q : Checked} {image' : List ℕ}
+  back-writes : {q : Result (Unit {0}) Refusal} {image' : List ℕ}
       → Writes image k (object_of (record_at image k)) (berth_of (record_at image k)) AsGiven (label_of (record_at image k)) q image'
-      → (q ≡ Passed) × (image' ≡ image)
+      → (q ≡ (Ok tt)) × (image' ≡ image)
   back-writes {q} w = (
-    checked-injective q Passed (w.answers ∙ back_passes),
+    checked-injective q (Ok tt) (w.answers ∙ back_passes),
     w.leaves
         ∙ ap
         (λ (c : Check).
@@ -236,9 +230,9 @@ module _ (image : List ℕ) (k : ℕ) (all : All (λ b. b < 256) image) (taken :
 
 -- the object, the berth and the label that reading gave, written as given, are taken and leave the
 -- image as it was
-pub written_back : (image : List ℕ) (k : ℕ) (out : List ℕ) {e : Entry} {out' : List ℕ} → All (λ b. b < 256) image → Finds image k out (Record e) out'
-    → {q : Checked} {image' : List ℕ} → Writes image k e.object e.berth AsGiven (take e.length out') q image'
-    → (q ≡ Passed) × (image' ≡ image)
+pub written_back : (image : List ℕ) (k : ℕ) (out : List ℕ) {e : Entry} {out' : List ℕ} → All (λ b. b < 256) image → Finds image k out (Ok e) out'
+    → {q : Result (Unit {0}) Refusal} {image' : List ℕ} → Writes image k e.object e.berth AsGiven (take e.length out') q image'
+    → (q ≡ (Ok tt)) × (image' ≡ image)
 written_back image k out {e} {out'} all f w =
     let d = fills-done f.fills in
     let label : take e.length out' ≡ label_of (record_at image k) =
@@ -262,7 +256,7 @@ module _ (image : List ℕ) (k object berth : ℕ) (form : Form) (label : List �
       (record-length object berth (stored form label) (writing-short image k form label e)) j h
   others_by j h (refuses number place) e = refl
 
-  module _ {r : Checked} {image' : List ℕ} (w : Writes image k object berth form label r image') where
+  module _ {r : Result (Unit {0}) Refusal} {image' : List ℕ} (w : Writes image k object berth form label r image') where
     -- writing, done or refused, leaves the image as long as it was
     pub writes-length : length image' ≡ length image
     writes-length = ap length w.leaves ∙ length-by (takes_writing image k form label) refl

@@ -10,18 +10,15 @@ use Prim.Native.Nat.{ℕ, ◌+◌, ◌-◌, ◌*◌, ◌≤◌, ◌<◌}
 use native.Mathlib.Omega.{arith}
 use lib.ListN.{length, take, drop, length-drop, take-append-drop}
 use lib.Seq.{length-take-le, take-append-le, drop-append-le, drop-drop}
+use Rattle.std.specs.Prelude.{Result, Ok, Err}
 use Rattle.laws.specs.Writing.{front}
-use Rattle.answers.specs.Checks.{passes, refuses, in_order}
+use Rattle.answers.specs.Checks.{passes, refuses, in_order, no_room}
 use Rattle.answers.specs.Answers.{checked}
 use Rattle.answers.specs.declared.refusal.Refusal.{Refusal}
-use Rattle.answers.specs.declared.refusal.Refusal.TheVariants.{NoRoom}
-use Rattle.answers.specs.declared.answer.Checked.{Checked}
-use Rattle.answers.specs.declared.answer.Checked.TheVariants.{Passed, Refused as CheckRefused}
-use Rattle.answers.proofs.Verdicts.{refused-before, refused-room, filled-whole}
+use Rattle.answers.proofs.Verdicts.{refused-before, refused-lacking, filled-whole}
 use Rattle.labels.specs.Records.{size_of, label_of, entry_of, layout}
 use Rattle.labels.specs.Images.{record_at, over_image, no_record, takes_record, Finds}
 use Rattle.labels.specs.declared.record.Entry.{Entry}
-use Rattle.labels.specs.declared.read.Found.TheVariants.{Record, Refused}
 use Rattle.answers.proofs.Orders.{order-first, order-rest, order-one}
 use Rattle.labels.proofs.Layouts.{label-length, layout-good}
 use Rattle.labels.proofs.Images.{at_length, image-over, image-within, number-inside}
@@ -33,15 +30,15 @@ module _ (image : List ℕ) (k : ℕ) where
   unfolding takes_record
   one-over h = simp (image-over image h)
 
-  module _ (within : length image ≤ 65472) {v : Checked} (said : checked v ≡ no_record image k) where
-    pub one_number : {r : Refusal} → v ≡ CheckRefused r → checked (CheckRefused r) ≡ takes_record image k
+  module _ (within : length image ≤ 65472) {v : Result (Unit {0}) Refusal} (said : checked v ≡ no_record image k) where
+    pub one_number : {r : Refusal} → v ≡ Err r → checked (Err r) ≡ takes_record image k
     unfolding takes_record
     one_number q = simp (image-within image within, sym said ∙ ap checked q)
 
-    pub one_inside : v ≡ Passed → 96 * k + 96 ≤ length image
+    pub one_inside : v ≡ Ok tt → 96 * k + 96 ≤ length image
     one_inside q = number-inside image k (sym said ∙ ap checked q)
 
-    pub one-record : v ≡ Passed → (w : Checked) → checked w ≡ layout (record_at image k) → checked w ≡ takes_record image k
+    pub one-record : v ≡ Ok tt → (w : Result (Unit {0}) Refusal) → checked w ≡ layout (record_at image k) → checked w ≡ takes_record image k
     unfolding takes_record
     one-record q w e = simp (image-within image within, sym said ∙ ap checked q) (e ∙ sym (order-one (layout (record_at image k))))
 
@@ -100,25 +97,27 @@ module _ (image : List ℕ) (k : ℕ) (taken : takes_record image k ≡ passes) 
 -- the entry is that of the record
 module _ (image : List ℕ) (k : ℕ) (taken : takes_record image k ≡ passes) {entry : Entry}
     (entry-is : entry ≡ entry_of (record_at image k)) where
-  size_is : entry.length ≡ length (label_of (record_at image k))
+  pub size_is : entry.length ≡ length (label_of (record_at image k))
   size_is = ap (λ (e : Entry). e.length) entry-is ∙ sym (taken-size image k taken)
 
   pub size-short : entry.length ≤ 88
   size-short = omega (arith, ap (λ (e : Entry). e.length) entry-is, taken-short image k taken)
 
   module _ (out : List ℕ) where
-    pub finds-lacking : length out < entry.length → Finds image k out (Refused (NoRoom entry.length)) out
-    finds-lacking h = record { fills = refused-room taken size_is h }
+    -- v is what the check of the room said
+    module _ {v : Result (Unit {0}) Refusal} (found : checked v ≡ no_room (length out) entry.length) where
+      pub finds-lacking : {r : Refusal} → v ≡ Err r → Finds image k out (Err r) out
+      finds-lacking q = record { fills = refused-lacking taken (sym (found ∙ ap (no_room (length out)) size_is) ∙ ap checked q) }
 
     pub finds-done : entry.length ≤ length out
         → {out' : List ℕ} → out' ≡ front (take (96 * k + 8 + entry.length - (96 * k + 8)) (drop (96 * k + 8) image)) out
-        → Finds image k out (Record entry) out'
+        → Finds image k out (Ok entry) out'
     finds-done h e =
         let l = taken-label image k taken entry.length (ap (λ (e : Entry). e.length) entry-is) in
         let fits : length (label_of (record_at image k)) ≤ length out = omega (arith, size_is) in
         rw entry-is (record { fills = filled-whole taken fits (rw l at e) })
 
 -- v is what the checks said
-pub finds-refused : (image : List ℕ) (k : ℕ) (out : List ℕ) {v : Checked} {r : Refusal} → checked v ≡ takes_record image k → v ≡ CheckRefused r
-    → Finds image k out (Refused r) out
+pub finds-refused : (image : List ℕ) (k : ℕ) (out : List ℕ) {v : Result (Unit {0}) Refusal} {r : Refusal} → checked v ≡ takes_record image k → v ≡ Err r
+    → Finds image k out (Err r) out
 finds-refused image k out e q = record { fills = refused-before (sym e ∙ ap checked q) }

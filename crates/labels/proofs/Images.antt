@@ -14,6 +14,7 @@ use lib.Dec.{ltb, eqb}
 use lib.ListN.{length, take, drop, length-append, length-drop, take-append-drop}
 use lib.Seq.{length-take-le, take_at, drop_at, take-append-le, drop-append-le, drop-append-add, drop-drop}
 use borrow.Author.Tests.{lt-ltb, le-ltb, ltb-true, ltb-false, eq-eqb, ne_eqb}
+use Rattle.std.specs.Prelude.{Option}
 use Rattle.laws.proofs.Bools.{test, and_right}
 use Rattle.answers.specs.Checks.{passes, refuses}
 use Rattle.answers.proofs.Orders.{order-first, passes-true}
@@ -128,11 +129,11 @@ module _ (image : List ℕ) where
         let both = passes-true (eqb (length image % 96) 0 && ltb k (count_of image)) 6 (length image) e in
         omega (arith, ltb-true k (count_of image) (and_right (eqb (length image % 96) 0) (ltb k (count_of image)) both))
 
--- the part of the image that the code judges is the record: byte is the first that breaks its
--- layout
-pub fault-is : (image : List ℕ) (k byte : ℕ) → layout (take (96 * k + 96 - 96 * k) (drop (96 * k) image)) ≡ faulty byte
-    → layout (record_at image k) ≡ faulty byte
+-- the part of the image that the code judges is the record: what is found is the first byte that
+-- breaks its layout
+pub fault-is : (image : List ℕ) (k : ℕ) (found : Option ℕ) → layout (take (96 * k + 96 - 96 * k) (drop (96 * k) image)) ≡ faulty found
+    → layout (record_at image k) ≡ faulty found
 unfolding record_at
-fault-is image k byte e =
+fault-is image k found e =
     let n : 96 * k + 96 - 96 * k ≡ 96 = omega arith in
     rw n at e

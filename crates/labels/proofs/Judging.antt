@@ -12,29 +12,25 @@ use Prim.Native.Nat.{ℕ, zero, suc, ◌+◌, ◌%◌, ◌≤◌, ◌<◌}
 use native.Mathlib.Numerals.{add-one}
 use native.Mathlib.Omega.{arith}
 use lib.ListN.{length}
-use borrow.Author.Tests.{eq-eqb, ne_eqb}
+use Rattle.std.specs.Prelude.{Option, Some, None, Result, Err, Ok}
 use Rattle.answers.specs.Checks.{Check, passes, refuses, in_order}
 use Rattle.answers.specs.Answers.{checked}
 use Rattle.answers.specs.declared.refusal.Refusal.{Refusal}
-use Rattle.answers.specs.declared.answer.Checked.{Checked}
-use Rattle.answers.specs.declared.answer.Checked.TheVariants.{Refused as CheckRefused}
 use Rattle.labels.specs.Records.{layout}
 use Rattle.labels.specs.Images.{record_at, count_of, over_image, no_image, layouts_from, bad_from, takes_image, bad_record, Judges}
 use Rattle.labels.specs.Inner.{faulty}
-use Rattle.labels.specs.declared.image.Judged.TheVariants.{Records, Refused, BadRecord}
+use Rattle.labels.specs.declared.image.ImageRefusal.TheVariants.{Refused, BadRecord}
 use Rattle.answers.proofs.Orders.{order-refused, order-passed, order-one}
 use Rattle.labels.proofs.Images.{image-over, image-within, image-uneven, image-even}
 
 -- ---- a byte as a check
 
-module _ {check : Check} {byte : ℕ} (found : check ≡ faulty byte) where
-  pub faulty-none : byte ≡ 0 → check ≡ passes
-  unfolding faulty
-  faulty-none e = found ∙ simp (eq-eqb byte 0 e)
+module _ {check : Check} {found : Option ℕ} (e : check ≡ faulty found) where
+  pub faulty-none : found ≡ None → check ≡ passes
+  faulty-none q = e ∙ ap faulty q
 
-  pub faulty-some : (byte ≡ 0 → ⊥) → check ≡ refuses 7 byte
-  unfolding faulty
-  faulty-some e = found ∙ simp (ne_eqb byte 0 e)
+  pub faulty-some : {byte : ℕ} → found ≡ Some byte → check ≡ refuses 7 byte
+  faulty-some q = e ∙ ap faulty q
 
 -- ---- 1 and 6
 
@@ -107,28 +103,28 @@ module _ (image : List ℕ) {number : ℕ} (j : Judging image number) where
       }
 
   module _ (taken : sized image ≡ passes) where
-    pub judging-bad : number < count_of image → {byte : ℕ} → layout (record_at image number) ≡ refuses 7 byte → Judges image (BadRecord number byte)
+    pub judging-bad : number < count_of image → {byte : ℕ} → layout (record_at image number) ≡ refuses 7 byte → Judges image (Err (BadRecord number byte))
     judging-bad h {byte} e = bad j.left j.sum j.checks j.names
       where
         bad : (n : ℕ) → number + n ≡ count_of image → layouts_from image number n ≡ layouts_from image 0 (count_of image)
-            → bad_from image number n ≡ bad_from image 0 (count_of image) → Judges image (BadRecord number byte)
+            → bad_from image number n ≡ bad_from image 0 (count_of image) → Judges image (Err (BadRecord number byte))
         bad zero s p q = absurd (omega arith)
         bad (suc n) s p q = record {
           answers = rw (records-decide image taken, ← p, layouts-stop image number n e);
           names = rw (records-name image taken, ← q, bad-stop image number n e);
         }
 
-    pub judging-all : count_of image ≤ number → Judges image (Records (count_of image))
+    pub judging-all : count_of image ≤ number → Judges image (Ok (count_of image))
     unfolding layouts_from bad_from
     judging-all h = all j.left j.sum j.checks j.names
       where
         all : (n : ℕ) → number + n ≡ count_of image → layouts_from image number n ≡ layouts_from image 0 (count_of image)
-            → bad_from image number n ≡ bad_from image 0 (count_of image) → Judges image (Records (count_of image))
+            → bad_from image number n ≡ bad_from image 0 (count_of image) → Judges image (Ok (count_of image))
         all zero s p q = record { answers = rw (records-decide image taken, ← p); names = rw (records-name image taken, ← q) }
         all (suc n) s p q = absurd (omega arith)
 
 -- ---- the call if 1 or 6 is given: v is what these checks said
-pub judges-refused : (image : List ℕ) {v : Checked} {r : Refusal} → checked v ≡ sized image → v ≡ CheckRefused r → Judges image (Refused r)
+pub judges-refused : (image : List ℕ) {v : Result (Unit {0}) Refusal} {r : Refusal} → checked v ≡ sized image → v ≡ Err r → Judges image (Err (Refused r))
 unfolding takes_image bad_record
 judges-refused image e q =
     let p = sym e ∙ ap checked q in

@@ -16,6 +16,8 @@ use lib.Dec.{ltb, eqb}
 use lib.ListN.{length, get_or, take, drop, length-drop, length-replicate, take-append-drop}
 use lib.Seq.{length-take-le, drop-drop, drop-cons}
 use borrow.Author.Tests.{lt-ltb, le-ltb, ltb-false, eq-eqb, ne_eqb, eqb-true}
+use Rattle.std.specs.Prelude.{Option, Some, None, position}
+use Rattle.std.proofs.lemmas.Slice.{between_to_end}
 use Rattle.laws.specs.Lists.{All}
 use Rattle.laws.proofs.Lists.{all_left, all_right}
 use Rattle.answers.specs.Checks.{passes, in_order}
@@ -23,23 +25,23 @@ use Rattle.answers.proofs.Orders.{order-first, order-rest, passes-true, passes-f
 use Rattle.encodings.proofs.Ills.{first-ill-none, first-ill-end}
 use Rattle.utf8.specs.Utf8.{ill_text, first_ill}
 use Rattle.utf8.proofs.Round.{encodes8}
-use Rattle.labels.specs.Records.{high_first, zeros, record_of, object_of, berth_of, size_of, label_of, after_label, first_set, too_long, not_spare, ill_formed, tail_set, layout, Written}
+use Rattle.labels.specs.Records.{high_first, zeros, record_of, object_of, berth_of, size_of, label_of, after_label, is_set, first_set, too_long, not_spare, ill_formed, tail_set, layout, Written}
 use Rattle.labels.specs.Inner.{faulty}
 use Rattle.labels.proofs.Numbers.{high-number, number-below}
 use Rattle.labels.proofs.Records.{record-size, record-label, record-spare, record-after}
-use Rattle.labels.proofs.Places.{set-zeros, zeros-set}
+use Rattle.labels.proofs.Places.{set-some, set-none, set-zeros, zeros-set}
 
 -- ---- the judge of a record: r and s are the indices that it found
 
 module _ (bytes : List ℕ) where
   -- the length byte is over 88
-  pub fault-long : 88 < size_of bytes → layout bytes ≡ faulty 6
-  unfolding layout faulty
+  pub fault-long : 88 < size_of bytes → layout bytes ≡ faulty (Some 6)
+  unfolding layout
   fault-long h = simp (lt-ltb 88 (size_of bytes) h)
 
   -- byte 7 is not zero
-  pub fault-spare : size_of bytes ≤ 88 → (get_or bytes 7 0 ≡ 0 → ⊥) → layout bytes ≡ faulty 7
-  unfolding layout faulty
+  pub fault-spare : size_of bytes ≤ 88 → (get_or bytes 7 0 ≡ 0 → ⊥) → layout bytes ≡ faulty (Some 7)
+  unfolding layout
   fault-spare short h = simp (le-ltb 88 (size_of bytes) short, ne_eqb (get_or bytes 7 0) 0 h)
 
 module _ (bytes : List ℕ) (size : length bytes ≡ 96) (short : size_of bytes ≤ 88) where
@@ -60,8 +62,8 @@ module _ (bytes : List ℕ) (size : length bytes ≡ 96) (short : size_of bytes 
         rw n at ill
 
     -- the label is ill-formed
-    pub fault-ill : r < size_of bytes → layout bytes ≡ faulty (8 + r)
-    unfolding layout faulty
+    pub fault-ill : r < size_of bytes → layout bytes ≡ faulty (Some (8 + r))
+    unfolding layout
     fault-ill h =
         let k : first_ill (label_of bytes) < length (label_of bytes) = omega (arith, found, label-length) in
         rw found
@@ -69,32 +71,34 @@ module _ (bytes : List ℕ) (size : length bytes ≡ 96) (short : size_of bytes 
           le-ltb 88 (size_of bytes) short,
           eq-eqb (get_or bytes 7 0) 0 spare,
           lt-ltb (first_ill (label_of bytes)) (length (label_of bytes)) k,
-          ne_eqb (8 + first_ill (label_of bytes)) 0 (λ e. omega arith),
         ))
 
-    module _ (formed : size_of bytes ≤ r) {s : ℕ} (last : s ≡ 8 + size_of bytes + first_set (after_label bytes)) where
+    module _ (formed : size_of bytes ≤ r) {last : Option ℕ} (searched : last ≡ position is_set (take (length bytes - (8 + size_of bytes)) (after_label bytes))) where
       well : length (label_of bytes) ≤ first_ill (label_of bytes)
       well = omega (arith, found, label-length)
 
+      -- what was searched is the rest of the record
+      after-found : position is_set (after_label bytes) ≡ last
+      after-found = sym (rw (between_to_end bytes (8 + size_of bytes) (length bytes) (omega arith)) at searched)
+
       -- a byte after the label is not zero
-      pub fault-tail : s < 96 → layout bytes ≡ faulty s
-      unfolding layout faulty
-      fault-tail h =
-          let k : first_set (after_label bytes) < length (after_label bytes) = omega (arith, after-length) in
-          rw last
+      pub fault-tail : {set : ℕ} → last ≡ Some set → layout bytes ≡ faulty (Some (8 + size_of bytes + set))
+      unfolding layout
+      fault-tail q =
+          let k = set-some (after_label bytes) (after-found ∙ q) in
+          rw (← k.1)
           (simp (
             le-ltb 88 (size_of bytes) short,
             eq-eqb (get_or bytes 7 0) 0 spare,
             le-ltb (first_ill (label_of bytes)) (length (label_of bytes)) well,
-            lt-ltb (first_set (after_label bytes)) (length (after_label bytes)) k,
-            ne_eqb (8 + size_of bytes + first_set (after_label bytes)) 0 (λ e. omega arith),
+            lt-ltb (first_set (after_label bytes)) (length (after_label bytes)) k.0,
           ))
 
       -- nothing breaks the layout
-      pub fault-none : 96 ≤ s → layout bytes ≡ faulty 0
-      unfolding layout faulty
-      fault-none h =
-          let k : length (after_label bytes) ≤ first_set (after_label bytes) = omega (arith, after-length) in
+      pub fault-none : last ≡ None → layout bytes ≡ faulty None
+      unfolding layout
+      fault-none q =
+          let k = set-none (after_label bytes) (after-found ∙ q) in
           simp (
             le-ltb 88 (size_of bytes) short,
             eq-eqb (get_or bytes 7 0) 0 spare,

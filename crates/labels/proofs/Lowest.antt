@@ -11,13 +11,14 @@ use Prim.Native.Nat.{ℕ, zero, suc, ◌+◌, ◌≤◌, ◌<◌}
 use native.Mathlib.Omega.{arith}
 use lib.Dec.{eqb}
 use borrow.Author.Tests.{eqb-true, eqb-false}
+use Rattle.std.specs.Prelude.{Ok, Err}
 use Rattle.laws.proofs.Bools.{test}
 use Rattle.answers.specs.Checks.{Check, passes, refuses, in_order}
 use Rattle.answers.specs.Verdicts.{done, refused, verdict}
 use Rattle.answers.proofs.Verdicts.{done-not-refused}
 use Rattle.labels.specs.Records.{layout}
 use Rattle.labels.specs.Images.{record_at, count_of, over_image, no_image, layouts_from, or_else, bad_from, only_if, takes_image, bad_record, Judges}
-use Rattle.labels.specs.declared.image.Judged.TheVariants.{Records, BadRecord}
+use Rattle.labels.specs.declared.image.ImageRefusal.TheVariants.{BadRecord}
 use Rattle.answers.proofs.Orders.{passes-refuses, order-first, order-rest, order-one, order-passed}
 
 -- ---- a verdict and what it was made of
@@ -84,7 +85,7 @@ module _ (image : List ℕ) where
       (sym (order-one (layouts_from image (suc i) n)) ∙ order-rest (layout (record_at image i)) (layouts_from image (suc i) n ∷ []) e)
       j (omega (arith, eqb-false i j t)) (omega arith))
 
-  judged-lowest : {k b : ℕ} → Judges image (BadRecord k b) → Lowest image 0 (count_of image) k b
+  judged-lowest : {k b : ℕ} → Judges image (Err (BadRecord k b)) → Lowest image 0 (count_of image) k b
   unfolding bad_record takes_image
   judged-lowest f =
       let named = names-passed (in_order (over_image image ∷ no_image image ∷ [])) (bad_from image 0 (count_of image)) f.names in
@@ -95,14 +96,14 @@ module _ (image : List ℕ) where
 
   -- THE RECORD NAMED IS THE LOWEST BAD ONE: it is in the image, the byte named is the first that
   -- breaks its layout, and every record before it is good
-  pub bad-lowest : {k b : ℕ} → Judges image (BadRecord k b)
+  pub bad-lowest : {k b : ℕ} → Judges image (Err (BadRecord k b))
       → (k < count_of image) × (layout (record_at image k) ≡ refuses 7 b) × ((j : ℕ) → j < k → layout (record_at image j) ≡ passes)
   bad-lowest f =
       let l = judged-lowest f in
       (omega (arith, l.inside), l.breaks, λ j h. l.before j (omega arith) h)
 
   -- and if the answer is how many records there are, every one is good
-  pub records-good : {n : ℕ} → Judges image (Records n) → (n ≡ count_of image) × ((j : ℕ) → j < n → layout (record_at image j) ≡ passes)
+  pub records-good : {n : ℕ} → Judges image (Ok n) → (n ≡ count_of image) × ((j : ℕ) → j < n → layout (record_at image j) ≡ passes)
   unfolding takes_image
   records-good {n} f =
       let all = done-check (takes_image image) (count_of image) f.answers in

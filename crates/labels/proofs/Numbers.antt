@@ -11,6 +11,7 @@ use Prim.Native.Nat.{ℕ, zero, suc, ◌+◌, ◌*◌, ◌/◌, ◌%◌, ◌^◌
 use native.Mathlib.Nat.{pow-suc, mod-lt, mod-eq_of_lt, div-add-mod', div-eq_of_lt, div-one, mul-add-div_right, mul-add-mod_self_right, div-lt_iff_lt-mul, mul_assoc, mul_comm, mul-le-mul_right, suc-mul, add-zero, one-le-pow}
 use native.Mathlib.Omega.{arith}
 use lib.ListN.{length}
+use Rattle.std.specs.Int.{w16, w32, from_be_bytes, to_be_bytes}
 use Rattle.laws.specs.Lists.{All, none, also}
 use Rattle.labels.specs.Records.{high_first, number_of}
 
@@ -68,26 +69,19 @@ high-number (also {a = b} {x = x} h p) =
 -- ---- four bytes and two, as the code has them
 
 -- the bytes of a number of four bytes, and of two
-pub four_bytes : (v : ℕ) → v < 2 ^ 32
-    → high_first 4 v ≡ (v / 0x1000000) ∷ (v / 0x10000 % 0x100) ∷ (v / 0x100 % 0x100) ∷ (v % 0x100) ∷ []
+pub four_bytes : (v : ℕ) → high_first 4 v ≡ to_be_bytes w32 v
 unfolding high_first
-four_bytes v h = rw (mod-eq_of_lt (four-top v h), div-one v)
-  where
-    four-top : (v : ℕ) → v < 2 ^ 32 → v / 0x1000000 < 256
-    four-top v h = omega arith
+four_bytes v = rw (div-one v)
 
-pub two_bytes : (v : ℕ) → v < 2 ^ 16 → high_first 2 v ≡ (v / 0x100) ∷ (v % 0x100) ∷ []
+pub two_bytes : (v : ℕ) → high_first 2 v ≡ to_be_bytes w16 v
 unfolding high_first
-two_bytes v h = rw (mod-eq_of_lt (two-top v h), div-one v)
-  where
-    two-top : (v : ℕ) → v < 2 ^ 16 → v / 0x100 < 256
-    two-top v h = omega arith
+two_bytes v = rw (div-one v)
 
 -- the number of four bytes, and of two
-pub number-four : (a b c d : ℕ) → a * 0x1000000 + b * 0x10000 + (c * 0x100 + d) ≡ number_of (a ∷ b ∷ c ∷ d ∷ [])
+pub number-four : (a b c d : ℕ) → from_be_bytes w32 (a ∷ b ∷ c ∷ d ∷ []) ≡ number_of (a ∷ b ∷ c ∷ d ∷ [])
 unfolding number_of
 number-four a b c d = omega arith
 
-pub number-two : (a b : ℕ) → a * 0x100 + b ≡ number_of (a ∷ b ∷ [])
+pub number-two : (a b : ℕ) → from_be_bytes w16 (a ∷ b ∷ []) ≡ number_of (a ∷ b ∷ [])
 unfolding number_of
 number-two a b = omega arith

@@ -1,20 +1,18 @@
 -- A file image: 0 to 682 records of 96 bytes, one after the other (document 01, 'The label file'
 -- and 'Refusal numbers'). This file says what the calls on an image check, in the paper's order,
 -- what they answer, and what they leave.
-use Rattle.std.specs.Prelude.{◌≡◌, cond, ◌&&◌, List, [], ◌∷◌, ◌++◌, ℕ, zero, suc, ◌+◌, ◌*◌, ◌/◌, ◌%◌, ltb, leb, eqb, length, take, drop}
+use Rattle.std.specs.Prelude.{◌≡◌, cond, ◌&&◌, List, [], ◌∷◌, ◌++◌, ℕ, zero, suc, ◌+◌, ◌*◌, ◌/◌, ◌%◌, ltb, leb, eqb, length, take, drop, Result, Ok, Err}
 use Rattle.std.proofs.Math.Option.{Option, none, some}
 use Rattle.answers.specs.Checks.{Check, passes, refuses, in_order, over_limit, takes_bytes}
 use Rattle.answers.specs.Verdicts.{Verdict, done, refused, verdict, Fills}
-use Rattle.answers.specs.Answers.{refused_by, checked}
-use Rattle.answers.specs.declared.answer.Checked.{Checked}
+use Rattle.answers.specs.Answers.{refused_by, checked, answered}
+use Rattle.answers.specs.declared.refusal.Refusal.{Refusal}
 use Rattle.utf8.specs.Utf8.{ill_text}
 use Rattle.mending.specs.Mending.{mended}
 use Rattle.labels.specs.Records.{record_of, berth_of, size_of, label_of, entry_of, layout}
 use Rattle.labels.specs.declared.record.Entry.{Entry}
-use Rattle.labels.specs.declared.read.Found.{Found}
-use Rattle.labels.specs.declared.read.Found.TheVariants.{Record, Refused as FoundRefused}
-use Rattle.labels.specs.declared.image.Judged.{Judged}
-use Rattle.labels.specs.declared.image.Judged.TheVariants.{Records, Refused, BadRecord}
+use Rattle.labels.specs.declared.image.ImageRefusal.{ImageRefusal}
+use Rattle.labels.specs.declared.image.ImageRefusal.TheVariants.{Refused, BadRecord}
 use Rattle.labels.specs.declared.write.Form.{Form}
 use Rattle.labels.specs.declared.write.Form.TheVariants.{AsGiven, Joined}
 
@@ -71,14 +69,10 @@ bad_from image k (suc n) = or_else (layout (record_at image k)) k (bad_from imag
 unfoldable pub takes_record : List ℕ → ℕ → Check
 takes_record image k = in_order (over_image image ∷ no_record image k ∷ layout (record_at image k) ∷ [])
 
-abbrev pub found_as : Found → Verdict Entry
-found_as (Record entry) = done entry
-found_as (FoundRefused r) = refused_by r
-
 -- THE CONTRACT of reading one record: the label fills the buffer, and the answer is object, berth
 -- and the label's length
-pub record Finds (image : List ℕ) (k : ℕ) (out : List ℕ) (r : Found) (out' : List ℕ) : Type 0 where
-  pub fills : Fills (takes_record image k) (label_of (record_at image k)) (entry_of (record_at image k)) out (found_as r) out'
+pub record Finds (image : List ℕ) (k : ℕ) (out : List ℕ) (r : Result Entry Refusal) (out' : List ℕ) : Type 0 where
+  pub fills : Fills (takes_record image k) (label_of (record_at image k)) (entry_of (record_at image k)) out (answered r) out'
 
 -- ---- reading a whole image: 1, 6, 7
 
@@ -94,19 +88,19 @@ unfoldable pub bad_record : List ℕ → Option ℕ
 bad_record image = only_if (in_order (over_image image ∷ no_image image ∷ [])) (bad_from image 0 (count_of image))
 
 -- the answer read as a verdict, and the record that it names
-abbrev pub judged_as : Judged → Verdict ℕ
-judged_as (Records count) = done count
-judged_as (Refused r) = refused_by r
-judged_as (BadRecord number byte) = refused 7 byte
+abbrev pub judged_as : Result ℕ ImageRefusal → Verdict ℕ
+judged_as (Ok count) = done count
+judged_as (Err (Refused r)) = refused_by r
+judged_as (Err (BadRecord number byte)) = refused 7 byte
 
-abbrev pub named_by : Judged → Option ℕ
-named_by (Records count) = none
-named_by (Refused r) = none
-named_by (BadRecord number byte) = some number
+abbrev pub named_by : Result ℕ ImageRefusal → Option ℕ
+named_by (Ok count) = none
+named_by (Err (Refused r)) = none
+named_by (Err (BadRecord number byte)) = some number
 
 -- THE CONTRACT of reading a whole image: how many records it has; of refusal 7 also which record is
 -- the lowest bad one
-pub record Judges (image : List ℕ) (r : Judged) : Type 0 where
+pub record Judges (image : List ℕ) (r : Result ℕ ImageRefusal) : Type 0 where
   pub answers : judged_as r ≡ verdict (takes_image image) (count_of image)
   pub names : named_by r ≡ bad_record image
 
@@ -130,6 +124,6 @@ changed passes image image' = image'
 changed (refuses number place) image image' = image
 
 -- THE CONTRACT of writing a record: the record's 96 bytes change, and no others
-pub record Writes (image : List ℕ) (k object berth : ℕ) (form : Form) (label : List ℕ) (r : Checked) (image' : List ℕ) : Type 0 where
+pub record Writes (image : List ℕ) (k object berth : ℕ) (form : Form) (label : List ℕ) (r : Result (Unit {0}) Refusal) (image' : List ℕ) : Type 0 where
   pub answers : checked r ≡ takes_writing image k form label
   pub leaves : image' ≡ changed (takes_writing image k form label) image (replaced image k (record_of object berth (stored form label)))

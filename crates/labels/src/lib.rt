@@ -8,8 +8,8 @@ mod read;
 mod record;
 mod write;
 
-pub use image::{Judged, read_image};
+pub use image::{ImageRefusal, read_image};
 pub use layout::fresh;
-pub use read::{Found, read_record};
+pub use read::read_record;
 pub use record::{Entry, berth_at, label_at};
 pub use write::{Form, write_record};

@@ -4,38 +4,26 @@ ghost use Rattle.answers.specs.Checks.{passes};
 ghost use Rattle.labels.specs.Images.{takes_record, Finds};
 
 use crate::record::Entry;
-use answers::{Checked, Refusal};
-
-// The answer of reading one record.
-#[derive(Clone, Copy)]
-pub enum Found {
-    Record(Entry),
-    Refused(Refusal),
-}
+use answers::Refusal;
 
 // Reads a record that has passed 1, 6 and 7: refusal 3 or done.
-fn read_checked(image: &[u8], number: usize, out: &mut [u8]) -> Found
+fn read_checked(image: &[u8], number: usize, out: &mut [u8]) -> Result<Entry, Refusal>
     requires { takes_record image.now number ≡ passes }
     ensures { Finds image.now number out.old result out.new }
 {
     let entry = crate::record::entry_at(image, number);
     let size = entry.length;
-    if out.len() < size {
-        return Found::Refused(Refusal::NoRoom(size));
-    }
+    answers::check_room(out.len(), size)?;
     let from = 96 * number + 8;
     let to = from + size;
     crate::record::copy(&image[from..to], out);
-    Found::Record(entry)
+    Ok(entry)
 }
 
 // Reads one record of an image, its label into a lent buffer: refusals 1, 6, 7 and 3.
-pub fn read_record(image: &[u8], number: usize, out: &mut [u8]) -> Found
+pub fn read_record(image: &[u8], number: usize, out: &mut [u8]) -> Result<Entry, Refusal>
     ensures { Finds image.now number out.old result out.new }
 {
-    let checked = crate::layout::check_one(image, number);
-    match checked {
-        Checked::Refused(refusal) => Found::Refused(refusal),
-        Checked::Passed => read_checked(image, number, out),
-    }
+    crate::layout::check_one(image, number)?;
+    read_checked(image, number, out)
 }

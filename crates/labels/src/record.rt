@@ -1,41 +1,25 @@
 // What a record of an image says: its object, berth and label.
-ghost use Rattle.std.specs.Prelude.{◌≡◌, ◌+◌, ◌*◌, ◌≤◌, ◌<◌, length};
-ghost use Rattle.labels.specs.Records.{object_of, entry_of};
+ghost use Rattle.std.specs.Prelude.{◌≡◌, ◌+◌, ◌*◌, ◌≤◌, length};
+ghost use Rattle.labels.specs.Records.{entry_of};
 ghost use Rattle.labels.specs.Images.{record_at, label_at, berth_at};
 ghost use Rattle.laws.specs.Writing.{front};
 
 // What a record says beside its label: the object, the berth (0 for none) and the label's length.
-#[derive(Clone, Copy)]
+#[derive(Clone, Copy, Debug, PartialEq, Eq)]
 pub struct Entry {
     pub object: u32,
     pub berth: u16,
     pub length: usize,
 }
 
-// The number of two bytes, high byte first.
-fn two(high: u8, low: u8) -> u32
-    ensures value { result ≡ high * 0x100 + low }
-    ensures upper_bound { result < 0x10000 }
-{
-    high as u32 * 0x100 + low as u32
-}
-
-// The object of a record.
-fn object_of(bytes: &[u8]) -> u32
-    requires { length bytes.now ≡ 96 }
-    ensures { result ≡ object_of bytes.now }
-{
-    two(bytes[0], bytes[1]) * 0x10000 + two(bytes[2], bytes[3])
-}
-
-// What a record says.
+// What a record says. Its numbers are written high byte first.
 fn entry_of(bytes: &[u8]) -> Entry
     requires { length bytes.now ≡ 96 }
     ensures { result ≡ entry_of bytes.now }
 {
     Entry {
-        object: object_of(bytes),
-        berth: two(bytes[4], bytes[5]) as u16,
+        object: u32::from_be_bytes([bytes[0], bytes[1], bytes[2], bytes[3]]),
+        berth: u16::from_be_bytes([bytes[4], bytes[5]]),
         length: bytes[6] as usize,
     }
 }
@@ -83,9 +67,5 @@ pub(crate) fn copy(bytes: &[u8], out: &mut [u8])
     requires { length bytes.now ≤ length out.old }
     ensures { out.new ≡ front bytes.now out.old }
 {
-    let mut at = 0;
-    while at < bytes.len() {
-        out[at] = bytes[at];
-        at += 1;
-    }
+    out[..bytes.len()].copy_from_slice(bytes);
 }

@@ -1,22 +1,14 @@
--- The readings of the sorter's and the one step's answers, and of the full parts of a code point,
--- are injective: any two answers that a contract admits are equal.
+-- The readings of the one step's answer, and of the full parts of a code point, are injective: any
+-- two answers that a contract admits are equal.
 use mathlib.Core.Path.{◌≡◌, ap}
+use Rattle.std.specs.Prelude.{Result, Ok, Err}
+use Rattle.answers.specs.declared.refusal.Refusal.{Refusal}
 use Rattle.answers.proofs.Answers.{refused_by-injective}
-use Rattle.letters.specs.declared.sort.Sorted.{Sorted}
-use Rattle.letters.specs.declared.sort.Sorted.TheVariants.{Is, Refused as SortRefused}
 use Rattle.letters.specs.declared.step.Parts.{Parts}
 use Rattle.letters.specs.declared.step.Parts.TheVariants.{One, Two}
 use Rattle.letters.specs.declared.parts.Whole.{Whole}
 use Rattle.letters.specs.declared.parts.Whole.TheVariants.{One as OneOnly, Two as TwoOnly, Three}
-use Rattle.letters.specs.declared.step.Stepped.{Stepped}
-use Rattle.letters.specs.declared.step.Stepped.TheVariants.{Into, Refused as StepRefused}
-use Rattle.letters.specs.Answers.{sorted, codes_in, parts_in, stepped}
-
-pub sorted-injective : (a b : Sorted) → sorted a ≡ sorted b → a ≡ b
-sorted-injective (Is s) (Is t) e = cc
-sorted-injective (Is s) (SortRefused r) e = cc
-sorted-injective (SortRefused r) (Is s) e = cc
-sorted-injective (SortRefused r) (SortRefused q) e = ap SortRefused (refused_by-injective r q e)
+use Rattle.letters.specs.Answers.{codes_in, parts_in, stepped}
 
 pub listed-injective : (a b : Parts) → codes_in a ≡ codes_in b → a ≡ b
 listed-injective (One a) (One b) e = cc
@@ -35,8 +27,8 @@ parts_in-injective (Three a b c) (OneOnly d) e = cc
 parts_in-injective (Three a b c) (TwoOnly d f) e = cc
 parts_in-injective (Three a b c) (Three d f g) e = cc
 
-pub stepped-injective : (a b : Stepped) → stepped a ≡ stepped b → a ≡ b
-stepped-injective (Into p) (Into q) e = ap Into (listed-injective p q (cc))
-stepped-injective (Into p) (StepRefused r) e = cc
-stepped-injective (StepRefused r) (Into p) e = cc
-stepped-injective (StepRefused r) (StepRefused q) e = ap StepRefused (refused_by-injective r q e)
+pub stepped-injective : (a b : Result Parts Refusal) → stepped a ≡ stepped b → a ≡ b
+stepped-injective (Ok p) (Ok q) e = ap Ok (listed-injective p q (cc))
+stepped-injective (Ok p) (Err r) e = cc
+stepped-injective (Err r) (Ok p) e = cc
+stepped-injective (Err r) (Err q) e = ap Err (refused_by-injective r q e)

@@ -6,7 +6,9 @@ use mathlib.Core.List.{List, [], ◌∷◌, ◌++◌}
 use Prim.Native.Nat.{ℕ, zero, suc, ◌+◌, ◌-◌, ◌*◌, ◌≤◌, ◌<◌}
 use native.Mathlib.Numerals.{sub-one}
 use native.Mathlib.Omega.{arith}
-use lib.ListN.{length, get_or, drop}
+use lib.ListN.{length, get_or, drop, length-append}
+use Rattle.std.specs.List.{sum_by}
+use Rattle.std.proofs.lemmas.List.Recursion.{is_sum_by}
 use Rattle.laws.specs.Lists.{each, All, none, also}
 use Rattle.laws.proofs.Lists.{one-not-two, each-end, each-one, each-cons, each_append, each-each, each-alone, each_same, all-each, all-each-of, all_map, length-each-least, length-each-most}
 use Rattle.laws.proofs.Filling.{Piece, each-piece}
@@ -164,6 +166,11 @@ full-most x = length-each-most parts_of 3 parts-most x
 
 pub full-least : (x : List ℕ) → length x ≤ length (full_parts x)
 full-least x = length-each-least parts_of parts-least x
+
+-- each code point's parts, added up
+pub full-sum : (x : List ℕ) → length (full_parts x) ≡ sum_by (λ c. length (parts_of c)) x
+unfolding each
+full-sum x = is_sum_by (λ y. length (full_parts y)) (λ c. length (parts_of c)) refl (λ c y. length-append (parts_of c) (full_parts y)) x
 
 -- ---- what the loops over a text ask
 

@@ -1,21 +1,13 @@
--- The answers of the sorter and of the one step read as verdicts (document 01, 'Refusal numbers');
--- what one step makes, and the full parts of a code point, as lists.
-use Rattle.std.specs.Prelude.{List, [], ◌∷◌, ℕ}
+-- The answer of the one step read as a verdict (document 01, 'Refusal numbers'); what one step
+-- makes, and the full parts of a code point, as lists.
+use Rattle.std.specs.Prelude.{List, [], ◌∷◌, ℕ, Result, Ok, Err}
 use Rattle.answers.specs.Verdicts.{Verdict, done}
 use Rattle.answers.specs.Answers.{refused_by}
-use Rattle.letters.specs.declared.sort.Sort.{Sort}
-use Rattle.letters.specs.declared.sort.Sorted.{Sorted}
-use Rattle.letters.specs.declared.sort.Sorted.TheVariants.{Is, Refused as SortRefused}
+use Rattle.answers.specs.declared.refusal.Refusal.{Refusal}
 use Rattle.letters.specs.declared.step.Parts.{Parts}
 use Rattle.letters.specs.declared.step.Parts.TheVariants.{One, Two}
 use Rattle.letters.specs.declared.parts.Whole.{Whole}
 use Rattle.letters.specs.declared.parts.Whole.TheVariants.{One as OneOnly, Two as TwoOnly, Three}
-use Rattle.letters.specs.declared.step.Stepped.{Stepped}
-use Rattle.letters.specs.declared.step.Stepped.TheVariants.{Into, Refused as StepRefused}
-
-abbrev pub sorted : Sorted → Verdict Sort
-sorted (Is sort) = done sort
-sorted (SortRefused r) = refused_by r
 
 -- the parts, one or two
 abbrev pub codes_in : Parts → List ℕ
@@ -28,6 +20,6 @@ parts_in (OneOnly a) = a ∷ []
 parts_in (TwoOnly a b) = a ∷ b ∷ []
 parts_in (Three a b c) = a ∷ b ∷ c ∷ []
 
-abbrev pub stepped : Stepped → Verdict (List ℕ)
-stepped (Into parts) = done (codes_in parts)
-stepped (StepRefused r) = refused_by r
+abbrev pub stepped : Result Parts Refusal → Verdict (List ℕ)
+stepped (Ok parts) = done (codes_in parts)
+stepped (Err r) = refused_by r

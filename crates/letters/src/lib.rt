@@ -7,5 +7,5 @@ mod sort;
 mod step;
 
 pub use parts::{Whole, full_parts, full_parts_of};
-pub use sort::{Make, Sort, Sorted, sort_of, sorter};
-pub use step::{Parts, Stepped, one_step, parts_of};
+pub use sort::{Make, Sort, sort_of, sorter};
+pub use step::{Parts, one_step, parts_of};

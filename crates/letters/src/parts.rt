@@ -2,16 +2,16 @@
 // (document 01, 'Syllables').
 ghost use Rattle.std.specs.Prelude.{◌≡◌, ◌≤◌, length};
 ghost use Rattle.laws.specs.Writing.{Room, Wrote, Fronts};
-ghost use Rattle.answers.specs.Checks.{lacking};
-ghost use Rattle.answers.specs.Answers.{Makes};
+ghost use Rattle.answers.specs.Checks.{no_room};
+ghost use Rattle.answers.specs.Answers.{checked, Makes};
 ghost use Rattle.letters.specs.Syllables.{parts_to, parts_of, full_parts};
 ghost use Rattle.letters.specs.Answers.{parts_in};
 
 use crate::step::Parts;
-use answers::{Checked, Filled, Refusal};
+use answers::Refusal;
 
 // The full parts of one code point: itself, or the letters of a syllable.
-#[derive(Clone, Copy)]
+#[derive(Clone, Copy, Debug, PartialEq, Eq)]
 pub enum Whole {
     One(u32),
     Two(u32, u32),
@@ -63,7 +63,8 @@ fn take_apart(code: u32, out: &mut [u32], at: usize, depth: u32) -> usize
 
 // How many full parts a code point has: 1, 2 or 3.
 fn count_of(code: u32) -> usize
-    ensures { result ≡ length (parts_of code) }
+    ensures is { result ≡ length (parts_of code) }
+    ensures most { result ≤ 3 }
 {
     match code {
         0xAC00..=0xD7A3 => if (code - 0xAC00) % 28 == 0 { 2 } else { 3 },
@@ -76,25 +77,19 @@ fn parts_count(text: &[u32]) -> usize
     requires { length text.now ≤ 16384 }
     ensures { result ≡ length (full_parts text.now) }
 {
-    let mut count: usize = 0;
-    let mut i = 0;
-    while i < text.len() {
-        count += count_of(text[i]);
-        i += 1;
-    }
-    count
+    text.iter().map(|code| count_of(*code)).sum()
 }
 
-// 0 if `room` is enough, else the length needed. Three for each code point are always enough, and
+// The check of the room: 3. Three for each code point are always enough, and
 // then nothing is counted.
-fn parts_lacking(text: &[u32], room: usize) -> usize
+fn check_parts_room(text: &[u32], room: usize) -> Result<(), Refusal>
     requires { length text.now ≤ 16384 }
-    ensures { result ≡ lacking room (length (full_parts text.now)) }
+    ensures { checked result ≡ no_room room (length (full_parts text.now)) }
 {
     if 3 * text.len() <= room {
-        return 0;
+        return Ok(());
     }
-    answers::lacking(room, parts_count(text))
+    answers::check_room(room, parts_count(text))
 }
 
 // Writes the full parts of a text to the front of `out`, which has room for them.
@@ -103,27 +98,17 @@ fn write_parts(text: &[u32], out: &mut [u32]) -> usize
     ensures { Fronts (full_parts text.now) out.old result out.new }
 {
     let mut at: usize = 0;
-    let mut read = 0;
-    while read < text.len() {
-        at = take_apart(text[read], out, at, 2);
-        read += 1;
+    for &code in text {
+        at = take_apart(code, out, at, 2);
     }
     at
 }
 
 // Takes a text apart into a lent buffer: refusals 1, 2 and 3.
-pub fn full_parts(text: &[u32], out: &mut [u32]) -> Filled
+pub fn full_parts(text: &[u32], out: &mut [u32]) -> Result<usize, Refusal>
     ensures { Makes full_parts text.now out.old result out.new }
 {
-    let checked = answers::check_text(text);
-    match checked {
-        Checked::Refused(refusal) => Filled::Refused(refusal),
-        Checked::Passed => {
-            let needed = parts_lacking(text, out.len());
-            if needed != 0 {
-                return Filled::Refused(Refusal::NoRoom(needed));
-            }
-            Filled::Done(write_parts(text, out))
-        }
-    }
+    answers::check_text(text)?;
+    check_parts_room(text, out.len())?;
+    Ok(write_parts(text, out))
 }

@@ -2,20 +2,20 @@
 ghost use Rattle.std.specs.Prelude.{◌≡◌, [], ◌∷◌};
 ghost use Rattle.answers.specs.Checks.{bad_code_point};
 ghost use Rattle.answers.specs.Verdicts.{verdict};
+ghost use Rattle.answers.specs.Answers.{answered};
 ghost use Rattle.letters.specs.Sorts.{sort_of};
-ghost use Rattle.letters.specs.Answers.{sorted};
 
 use answers::Refusal;
 
 // What a letter is made of: it is simple, or a cluster of two or three simple letters.
-#[derive(Clone, Copy)]
+#[derive(Clone, Copy, Debug, PartialEq, Eq)]
 pub enum Make {
     Simple,
     Cluster,
 }
 
 // A letter's place and age, and its make; a filler's place; the two sorts of syllables; all else.
-#[derive(Clone, Copy)]
+#[derive(Clone, Copy, Debug, PartialEq, Eq)]
 pub enum Sort {
     ModernInitial(Make),
     OldInitial(Make),
@@ -28,13 +28,6 @@ pub enum Sort {
     Lv,
     Lvt,
     Other,
-}
-
-// The sorter's answer.
-#[derive(Clone, Copy)]
-pub enum Sorted {
-    Is(Sort),
-    Refused(Refusal),
 }
 
 // The sort of any number: what is no code point is other. It tests for plain text first, then for
@@ -126,11 +119,11 @@ pub fn sort_of(code: u32) -> Sort
 }
 
 // The sort of a code point, or refusal 2.
-pub fn sorter(code: u32) -> Sorted
-    ensures { sorted result ≡ verdict (bad_code_point (code ∷ [])) (sort_of code) }
+pub fn sorter(code: u32) -> Result<Sort, Refusal>
+    ensures { answered result ≡ verdict (bad_code_point (code ∷ [])) (sort_of code) }
 {
     if answers::is_bad(code) {
-        return Sorted::Refused(Refusal::BadCodePoint(0));
+        return Err(Refusal::BadCodePoint(0));
     }
-    Sorted::Is(sort_of(code))
+    Ok(sort_of(code))
 }

@@ -8,17 +8,10 @@ ghost use Rattle.letters.specs.Answers.{codes_in, stepped};
 use answers::Refusal;
 
 // What one step makes of a code point: itself, or two parts.
-#[derive(Clone, Copy)]
+#[derive(Clone, Copy, Debug, PartialEq, Eq)]
 pub enum Parts {
     One(u32),
     Two(u32, u32),
-}
-
-// The one step's answer.
-#[derive(Clone, Copy)]
-pub enum Stepped {
-    Into(Parts),
-    Refused(Refusal),
 }
 
 // The one step of any number: what is no syllable stays.
@@ -40,11 +33,11 @@ pub fn parts_of(code: u32) -> Parts
 }
 
 // The one step of a code point, or refusal 2.
-pub fn one_step(code: u32) -> Stepped
+pub fn one_step(code: u32) -> Result<Parts, Refusal>
     ensures { stepped result ≡ verdict (bad_code_point (code ∷ [])) (one_step code) }
 {
     if answers::is_bad(code) {
-        return Stepped::Refused(Refusal::BadCodePoint(0));
+        return Err(Refusal::BadCodePoint(0));
     }
-    Stepped::Into(parts_of(code))
+    Ok(parts_of(code))
 }

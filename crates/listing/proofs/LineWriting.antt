@@ -12,14 +12,13 @@ use lib.ListN.{length, take, drop, set, take-append-drop}
 use lib.Seq.{sets, sets-eq, drop-drop, drop-append-le}
 use borrow.Author.Tests.{ltb-true, ltb-false}
 use borrow.Rule.Slice.PartMut.{mid_of, post_of, put_mid, mid_len, put_same}
+use Rattle.std.specs.Prelude.{Result, Ok, Err}
 use Rattle.laws.specs.Writing.{front, Room, Wrote}
 use Rattle.laws.proofs.Bools.{test}
 use Rattle.laws.proofs.Filling.{Piece, wrote_one, wrote-two, room-one, room-first, room-second}
 use Rattle.answers.specs.Verdicts.{Fills}
-use Rattle.answers.specs.Answers.{filled}
 use Rattle.answers.specs.declared.refusal.Refusal.{Refusal}
-use Rattle.answers.specs.declared.answer.Filled.{Filled}
-use Rattle.answers.specs.declared.answer.Filled.TheVariants.{Done, Refused}
+use Rattle.answers.specs.Answers.{answered}
 use Rattle.answers.proofs.Verdicts.{done-not-refused, refused-room, fills-done, fills-unique}
 use Rattle.letters.specs.Syllables.{is_syllable}
 use Rattle.names.specs.Names.{name_of}
@@ -31,7 +30,7 @@ use Rattle.listing.specs.Line.{name_or_none, line_of}
 
 -- ---- the name or -
 
-done-is-refused : {k : ℕ} {refusal : Refusal} → ◌≡◌ {A = Filled} (Done k) (Refused refusal) → ⊥
+done-is-refused : {k : ℕ} {refusal : Refusal} → ◌≡◌ {A = Result ℕ Refusal} (Ok k) (Err refusal) → ⊥
 done-is-refused e = let z : ◌≡◌ {A = ℕ} 0 1 = cc in omega arith
 
 module _ (c : ℕ) where
@@ -44,9 +43,9 @@ module _ (c : ℕ) where
   name-none h = rw h
 
 -- what naming answers, and leaves
-module _ (c : ℕ) {out out' : List ℕ} {r : Filled} (named : Names c out r out') where
-  module _ {k : ℕ} (e : r ≡ Done k) where
-    done : Fills (no_syllable c) (name_of c) (length (name_of c)) out (filled (Done k)) out'
+module _ (c : ℕ) {out out' : List ℕ} {r : Result ℕ Refusal} (named : Names c out r out') where
+  module _ {k : ℕ} (e : r ≡ Ok k) where
+    done : Fills (no_syllable c) (name_of c) (length (name_of c)) out (answered (Ok k)) out'
     done = (rw e at named).fills
 
     -- a name that is written had room
@@ -60,7 +59,7 @@ module _ (c : ℕ) {out out' : List ℕ} {r : Filled} (named : Names c out r out
     done-named = rw (name-yes c (passes-syllable c (fills-done done).0)) ((fills-done done).1, (fills-done done).2)
 
   -- if there is room, what is refused has no name
-  refused-named : length (name_or_none c) ≤ length out → {refusal : Refusal} → r ≡ Refused refusal → (name_or_none c ≡ 0x2D ∷ []) × (out' ≡ out)
+  refused-named : length (name_or_none c) ≤ length out → {refusal : Refusal} → r ≡ Err refusal → (name_or_none c ≡ 0x2D ∷ []) × (out' ≡ out)
   refused-named room e =
       test (is_syllable c)
       (λ h. absurd (done-is-refused (sym (names-unique named (names-whole c h (rw (name-yes c h) at room))).0 ∙ e)))
@@ -87,16 +86,16 @@ module _ (out : List ℕ) (at : ℕ) where
       ∙ ap (drop (length xs)) (take-append-drop (length out - at) (drop at out)) ∙ drop-drop (length xs) at out in
       rw (sets-eq xs out at h) (simp append_assoc (ap (λ (l : List ℕ). take at out ++ (xs ++ l)) rest))
 
-module _ (c : ℕ) {out part : List ℕ} {at : ℕ} {r : Filled} (room : Room out at (name_or_none c)) (named : Names c (after out at) r part) where
+module _ (c : ℕ) {out part : List ℕ} {at : ℕ} {r : Result ℕ Refusal} (room : Room out at (name_or_none c)) (named : Names c (after out at) r part) where
   room-part : length (name_or_none c) ≤ length (after out at)
   room-part = omega (arith, room.fits, after-long out at)
 
-  pub wrote-named : {k : ℕ} → r ≡ Done k → Wrote out at (name_or_none c) (at + k) (with_after out at part)
+  pub wrote-named : {k : ℕ} → r ≡ Ok k → Wrote out at (name_or_none c) (at + k) (with_after out at part)
   wrote-named done =
       let h = done-named c named done in
       record { after = ap (λ (n : ℕ). at + n) h.0; holds = rw h.1 (put_front out at (name_or_none c) room.fits) }
 
-  module _ {refusal : Refusal} (refused : r ≡ Refused refusal) where
+  module _ {refusal : Refusal} (refused : r ≡ Err refusal) where
     put_back : with_after out at part ≡ out
     put_back = ap (with_after out at) (refused-named c named room-part refused).1 ∙ put_same at (length out - at) out
 

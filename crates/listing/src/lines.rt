@@ -3,10 +3,11 @@
 ghost use Rattle.std.specs.Prelude.{◌≤◌, length, ◌≡◌};
 ghost use Rattle.laws.specs.Writing.{Room, Wrote, Fronts};
 ghost use Rattle.listing.specs.Line.{name_or_none, line_of};
-ghost use Rattle.answers.specs.Checks.{lacking};
+ghost use Rattle.answers.specs.Checks.{no_room};
+ghost use Rattle.answers.specs.Answers.{checked};
 ghost use Rattle.listing.specs.Listing.{listed, Lists};
 
-use answers::{Checked, Filled, Refusal};
+use answers::Refusal;
 
 // Writes the name of a syllable, or - for any other character, from `at` on, and answers the index
 // after it. There is room, so naming refuses nothing but a character that is no syllable.
@@ -14,10 +15,9 @@ fn put_name(code: u32, out: &mut [u8], at: usize) -> usize
     requires { Room out.old at (name_or_none code) }
     ensures { Wrote out.old at (name_or_none code) result out.new }
 {
-    let named = names::name(code, &mut out[at..]);
-    match named {
-        Filled::Done(length) => at + length,
-        Filled::Refused(refusal) => {
+    match names::name(code, &mut out[at..]) {
+        Ok(length) => at + length,
+        Err(_) => {
             out[at] = b'-';
             at + 1
         }
@@ -44,6 +44,7 @@ fn list_into(text: &[u8], out: &mut [u8]) -> usize
 {
     let mut read = 0;
     let mut written = 0;
+    // No `for`: a turn goes on by as many bytes as the character takes.
     while read < text.len() {
         let taken = mending::character_at(text, read);
         written = put_line(taken.code, out, written);
@@ -60,6 +61,7 @@ fn listed_count(text: &[u8]) -> usize
     let mut line = [0; 32];
     let mut read = 0;
     let mut length = 0;
+    // No `for`: a turn goes on by as many bytes as the character takes.
     while read < text.len() {
         let taken = mending::character_at(text, read);
         length += put_line(taken.code, &mut line, 0);
@@ -68,31 +70,22 @@ fn listed_count(text: &[u8]) -> usize
     length
 }
 
-// 0 if `room` is enough, else the length needed. Ten for each byte are always enough, and then
-// nothing is counted.
-fn list_lacking(text: &[u8], room: usize) -> usize
+// The check of the room: 3. Ten for each byte are always enough, and then nothing is counted.
+fn check_list_room(text: &[u8], room: usize) -> Result<(), Refusal>
     requires { length text.now ≤ 16384 }
-    ensures { result ≡ lacking room (length (listed text.now)) }
+    ensures { checked result ≡ no_room room (length (listed text.now)) }
 {
     if 10 * text.len() <= room {
-        return 0;
+        return Ok(());
     }
-    answers::lacking(room, listed_count(text))
+    answers::check_room(room, listed_count(text))
 }
 
 // Lists the characters of a text of bytes into a lent buffer: refusals 1 and 3.
-pub fn list(text: &[u8], out: &mut [u8]) -> Filled
+pub fn list(text: &[u8], out: &mut [u8]) -> Result<usize, Refusal>
     ensures { Lists text.now out.old result out.new }
 {
-    let checked = answers::check_bytes(text);
-    match checked {
-        Checked::Refused(refusal) => Filled::Refused(refusal),
-        Checked::Passed => {
-            let needed = list_lacking(text, out.len());
-            if needed != 0 {
-                return Filled::Refused(Refusal::NoRoom(needed));
-            }
-            Filled::Done(list_into(text, out))
-        }
-    }
+    answers::check_bytes(text)?;
+    check_list_room(text, out.len())?;
+    Ok(list_into(text, out))
 }

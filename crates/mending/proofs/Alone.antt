@@ -1,7 +1,7 @@
 -- A character that stands alone, by its bytes. In order: an ill-formed subpart, which takes in
 -- nothing: of a byte that begins no sequence (`stray-character`), of one before a second byte that
 -- continues nothing (`second-character`), and of two before such a third (`third-character`); a
--- modern peak by its tail (`peak-none`, `peak-test`); the letter of a tail (`of-tail`,
+-- modern peak by its tail (`peak-some`, `peak-none`); the letter of a tail (`of-tail`,
 -- `letter-triple`), which is a character where it is no modern initial or has no modern peak after
 -- it (`letter-character`).
 use mathlib.Core.Path.{◌≡◌, refl, sym, ◌∙◌, ap}
@@ -9,9 +9,9 @@ use mathlib.Core.Bool.{true, false}
 use mathlib.Core.List.{List, [], ◌∷◌}
 use Prim.Native.Nat.{ℕ, suc, ◌+◌, ◌-◌, ◌*◌, ◌/◌, ◌%◌, ◌≤◌, ◌<◌}
 use native.Mathlib.Omega.{arith}
-use lib.Dec.{ltb, leb, eqb}
+use lib.Dec.{ltb, eqb}
 use lib.ListN.{length, get_or, drop}
-use borrow.Author.Tests.{ltb-true, ltb-false, leb-true, leb-false, eqb-true, eqb-false}
+use borrow.Author.Tests.{ltb-true, ltb-false, eqb-true, eqb-false}
 use Rattle.laws.specs.Ranges.{within}
 use Rattle.laws.proofs.Bools.{test}
 use Rattle.laws.proofs.Ranges.{within-yes, within-least, within-most}
@@ -79,7 +79,7 @@ tail-peak c l m =
     rw (q, r) (omega arith)
 
 module _ (text : List ℕ) (at : ℕ) {r : ℕ} (tail : Tail text at r) where
-  peak-some : 0x85A1 ≤ r → r ≤ 0x85B5 → within 0x1161 0x1175 (taken_from (pieces kind_of (drop at text))).code ≡ true
+  pub peak-some : 0x85A1 ≤ r → r ≤ 0x85B5 → within 0x1161 0x1175 (taken_from (pieces kind_of (drop at text))).code ≡ true
   peak-some l m =
       let c = 0x1161 + (r - 0x85A1) in
       ap (λ (t : Taken). within 0x1161 0x1175 t.code)
@@ -96,11 +96,6 @@ module _ (text : List ℕ) (at : ℕ) {r : ℕ} (tail : Tail text at r) where
       let e : r ≡ tail_of c = tail.only c (omega arith) (omega arith) refl in
       absurd (h (omega (arith, e, tail-peak c l m)) (omega (arith, e, tail-peak c l m))))
       (λ q. sym q)
-
-  pub peak-test : 0x85A1 ≤ r → leb r 0x85B5 ≡ within 0x1161 0x1175 (taken_from (pieces kind_of (drop at text))).code
-  peak-test l =
-      test (leb r 0x85B5) (λ q. q ∙ sym (peak-some l (leb-true r 0x85B5 q)))
-      (λ q. q ∙ peak-none (λ k m. omega (arith, m, leb-false r 0x85B5 q)))
 
 -- ---- THE LETTER OF A TAIL
 

@@ -12,6 +12,7 @@ use mathlib.Core.Bool.{false, false≢true}
 use mathlib.Core.List.{List, [], ◌∷◌, ◌++◌}
 use Prim.Native.Nat.{ℕ, ◌≤◌}
 use native.Mathlib.Omega.{arith}
+use Rattle.std.specs.Prelude.{Ok}
 use Rattle.laws.proofs.Lists.{each_nil, each-cons, each-one, each_append}
 use Rattle.answers.proofs.Checks.{units-short}
 use Rattle.answers.proofs.Verdicts.{fills-done, fills-front}
@@ -24,7 +25,6 @@ use Rattle.encodings.specs.Places.{EndingPlace, BeginningFound}
 use Rattle.encodings.specs.Forms.{Form, Encodes, pieces_in, ill_in, write_in}
 use Rattle.encodings.specs.Reading.{ReadsIn}
 use Rattle.encodings.specs.declared.answer.Counted.{Counted}
-use Rattle.encodings.specs.declared.answer.Read.TheVariants.{Done}
 use Rattle.encodings.proofs.Damage.{keeps, around-ill}
 use Rattle.encodings.proofs.Places.{ending-place, beginning-place}
 use Rattle.encodings.proofs.Texts.{read-most, ills-most}
@@ -74,7 +74,7 @@ mended-keeps {f} enc b c z = keeps f.encoding (joined_in f) enc.leads (joined-cu
 
 -- ---- over a call: what it filled, where it is done
 
-module _ {f : Form} {text out out' : List ℕ} {r : Counted} (h : ReadsIn f (mended_in f) text out (Done r) out') where
+module _ {f : Form} {text out out' : List ℕ} {r : Counted} (h : ReadsIn f (mended_in f) text out (Ok r) out') where
   pub done-filled : filled_front r out' ≡ mended_in f text
   done-filled = fills-front h.fills (ap (λ (c : Counted). c.length) (fills-done h.fills).1)
 
@@ -87,19 +87,19 @@ module _ {f : Form} {text out out' : List ℕ} {r : Counted} (h : ReadsIn f (men
 -- ---- DEMAND 3 OVER A CALL
 
 pub call-around : {f : Form} (t : List ℕ) (P : List (Piece ℕ)) (u : List ℕ) (Q : List (Piece ℕ)) → pieces_in f t ≡ P ++ ill u ∷ Q
-    → {out out' : List ℕ} {r : Counted} → ReadsIn f (mended_in f) t out (Done r) out'
+    → {out out' : List ℕ} {r : Counted} → ReadsIn f (mended_in f) t out (Ok r) out'
     → filled_front r out' ≡ mended_in f (units_of P) ++ (f.units 0xFFFD ++ mended_in f (units_of Q))
 call-around {f} t P u Q e h = done-filled h ∙ (mended-around f t P u Q e).1
 
 module _ {f : Form} (enc : Encodes f) where
-  pub call-keeps : (b c z : List ℕ) {out out' : List ℕ} {r : Counted} → ReadsIn f (mended_in f) (b ++ c ++ z) out (Done r) out'
+  pub call-keeps : (b c z : List ℕ) {out out' : List ℕ} {r : Counted} → ReadsIn f (mended_in f) (b ++ c ++ z) out (Ok r) out'
       → StartsWith (filled_front r out') (mended_in f (beginning f.encoding (joined_in f) b))
       × EndsWith (filled_front r out') (mended_in f (ending f.encoding (joined_in f) z))
   unfolding mended_in
   call-keeps b c z h = let k = mended-keeps enc b c z in rw (done-filled h) (k.starts, k.ends)
 
-  pub demand-3 : (b c d z : List ℕ) {o o' p p' : List ℕ} {r s : Counted} → ReadsIn f (mended_in f) (b ++ c ++ z) o (Done r) o'
-      → ReadsIn f (mended_in f) (b ++ d ++ z) p (Done s) p' → SameAroundIn f b z (filled_front r o') (filled_front s p')
+  pub demand-3 : (b c d z : List ℕ) {o o' p p' : List ℕ} {r s : Counted} → ReadsIn f (mended_in f) (b ++ c ++ z) o (Ok r) o'
+      → ReadsIn f (mended_in f) (b ++ d ++ z) p (Ok s) p' → SameAroundIn f b z (filled_front r o') (filled_front s p')
   demand-3 b c d z v w =
       let h = call-keeps b c z v in
       let k = call-keeps b d z w in

@@ -1,9 +1,9 @@
 -- What the fast paths find, in any encoding form. In order: an ill-formed subpart is a character by
 -- itself (`ill-alone`); a letter of the block 1100–11FF joins with nothing after it if it is no
 -- modern initial, or no modern peak follows (`letter-apart`); F of a modern final (`last-yes`,
--- `last-outside`, `last-cases`); none found (`spelled_none`, `none-short`), or A SYLLABLE OF TWO
--- LETTERS AND OF THREE that take k units each (`spelled-pair`, `last-few`, `spelled-triple`). And
--- where two numbers have no bit in common (`bits_none`), for tests of several units in one number.
+-- `last-outside`, `last-cases`); A SYLLABLE OF TWO LETTERS AND OF THREE that take k units each
+-- (`spelled-pair`, `last-few`, `spelled-triple`). And where two numbers have no bit in common
+-- (`bits_none`), for tests of several units in one number.
 use mathlib.Core.Path.{◌≡◌, refl, sym, ◌∙◌, ap}
 use mathlib.Core.Bool.{false, false≢true}
 use mathlib.Core.List.{List}
@@ -22,7 +22,6 @@ use Rattle.joining.proofs.Roles.{role-between, initial-range, peak-range, final-
 use Rattle.joining.proofs.Pairs.{two-letters, three-letters, pair-other, no-fourth}
 use Rattle.encodings.specs.Forms.{Form, pieces_in}
 use Rattle.encodings.specs.Reading.{good_of, ill_of, taken_in}
-use Rattle.encodings.specs.declared.answer.Taken.{Taken}
 use Rattle.mending.specs.Characters.{grown_in, character_in, role_goes_on}
 use Rattle.mending.specs.Inner.{last_of}
 use Rattle.mending.proofs.Characters.{grown-stops, character-of-one, character-grown, grown-takes, grown-stays}
@@ -61,14 +60,6 @@ last-cases c some none =
     test (within 0x11A8 0x11C2 c) (λ q. some (within-least 0x11A8 0x11C2 c q) (within-most 0x11A8 0x11C2 c q)) (λ q. none (rw q))
 
 -- ---- A SYLLABLE IN LETTERS
-
--- none was found
-pub spelled_none : {r : Taken} {G : Type 0} → r ≡ good_of 0 0 → (r.size ≡ 0 → ⊥) → G
-spelled_none e h = absurd (h (ap (λ (x : Taken). x.size) e))
-
--- and then its code is no more than a unit
-pub none-short : {r : Taken} → r ≡ good_of 0 0 → r.code < 0x10000
-none-short e = omega (arith, ap (λ (x : Taken). x.code) e)
 
 -- an initial and a peak of k units each stand one after the other
 module _ (f : Form) (k : ℕ) (text : List ℕ) (at i p : ℕ) (i-few : i < 19) (p-few : p < 21)

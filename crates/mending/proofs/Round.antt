@@ -10,19 +10,20 @@ use mathlib.Core.Bool.{false}
 use mathlib.Core.List.{List}
 use Prim.Native.Nat.{ℕ, ◌≤◌}
 use lib.ListN.{length}
+use Rattle.std.specs.Prelude.{Result, Ok}
 use Rattle.laws.specs.Lists.{All}
 use Rattle.laws.specs.Writing.{front}
 use Rattle.answers.specs.Checks.{bad, passes, takes_units}
+use Rattle.answers.specs.declared.refusal.Refusal.{Refusal}
 use Rattle.answers.proofs.Verdicts.{filled-whole}
 use Rattle.joining.specs.Joining.{join}
 use Rattle.joining.proofs.Joins.{join-join, join-good}
 use Rattle.encodings.specs.Forms.{Form, Encodes, read_in, ill_in, write_in}
 use Rattle.encodings.specs.Reading.{counted_in, ReadsIn}
-use Rattle.encodings.specs.declared.answer.Read.{Read}
-use Rattle.encodings.specs.declared.answer.Read.TheVariants.{Done}
 use Rattle.encodings.proofs.Texts.{read-good, read-write, ill-write, write_read}
 use Rattle.encodings.proofs.Reading.{reads-unique}
 use Rattle.mending.specs.Mending.{mended_in}
+use Rattle.encodings.specs.declared.answer.Counted.{Counted}
 
 module _ {f : Form} (enc : Encodes f) where
   -- ---- a mended text read
@@ -59,20 +60,20 @@ module _ {f : Form} (enc : Encodes f) where
 
 -- the units are taken and there is room: the call is done, and the mended text fills the front of
 -- the buffer
-pub call-done : (f : Form) (t out : List ℕ) → takes_units t ≡ passes → length (mended_in f t) ≤ length out → {r : Read} {out' : List ℕ}
-    → ReadsIn f (mended_in f) t out r out' → (r ≡ Done (counted_in f (mended_in f) t)) × (out' ≡ front (mended_in f t) out)
+pub call-done : (f : Form) (t out : List ℕ) → takes_units t ≡ passes → length (mended_in f t) ≤ length out → {r : Result Counted Refusal} {out' : List ℕ}
+    → ReadsIn f (mended_in f) t out r out' → (r ≡ Ok (counted_in f (mended_in f) t)) × (out' ≡ front (mended_in f t) out)
 call-done f t out taken room h = reads-unique (mended_in f) t out h (record { fills = filled-whole taken room refl })
 
 module _ {f : Form} (enc : Encodes f) where
   -- a text with nothing to mend is left as it is, with nothing counted
-  pub call_back : (t out : List ℕ) → takes_units t ≡ passes → ill_in f t ≡ 0 → join (read_in f t) ≡ read_in f t → length t ≤ length out → {r : Read}
-      {out' : List ℕ} → ReadsIn f (mended_in f) t out r out' → (r ≡ Done (record { length = length t; ills = 0 })) × (out' ≡ front t out)
+  pub call_back : (t out : List ℕ) → takes_units t ≡ passes → ill_in f t ≡ 0 → join (read_in f t) ≡ read_in f t → length t ≤ length out → {r : Result Counted Refusal}
+      {out' : List ℕ} → ReadsIn f (mended_in f) t out r out' → (r ≡ Ok (record { length = length t; ills = 0 })) × (out' ≡ front t out)
   call_back t out taken e j room h =
       let back = joined_back enc t e j in
       let k = call-done f t out taken (rw back room) h in
       (k.0 ∙ rw (back, e), k.1 ∙ rw back)
 
-  pub call-again : (t out : List ℕ) → takes_units (mended_in f t) ≡ passes → length (mended_in f t) ≤ length out → {r : Read} {out' : List ℕ}
+  pub call-again : (t out : List ℕ) → takes_units (mended_in f t) ≡ passes → length (mended_in f t) ≤ length out → {r : Result Counted Refusal} {out' : List ℕ}
       → ReadsIn f (mended_in f) (mended_in f t) out r out'
-      → (r ≡ Done (record { length = length (mended_in f t); ills = 0 })) × (out' ≡ front (mended_in f t) out)
+      → (r ≡ Ok (record { length = length (mended_in f t); ills = 0 })) × (out' ≡ front (mended_in f t) out)
   call-again t out taken room h = call_back (mended_in f t) out taken (mended-ills enc t) (mended-joined enc t) room h

@@ -4,12 +4,12 @@ use mathlib.Core.Path.{◌≡◌, ap}
 use mathlib.Core.Logic.{◌↔◌}
 use mathlib.Core.List.{List}
 use Prim.Native.Nat.{ℕ}
+use Rattle.std.specs.Prelude.{Ok}
 use Rattle.letters.specs.Syllables.{full_parts}
 use Rattle.joining.proofs.Joins.{same-join, same_parts}
 use Rattle.encodings.specs.Forms.{Form, Encodes, read_in, write_in}
 use Rattle.encodings.specs.Reading.{ReadsIn}
 use Rattle.encodings.specs.declared.answer.Counted.{Counted}
-use Rattle.encodings.specs.declared.answer.Read.TheVariants.{Done}
 use Rattle.encodings.proofs.Texts.{write-injective}
 use Rattle.mending.specs.Mending.{mended_in, filled_front}
 use Rattle.mending.proofs.Damage.{done-filled}
@@ -25,6 +25,6 @@ module _ {f : Form} (enc : Encodes f) where
   )
 
   -- over a call: two calls that are done fill the same exactly there, whatever their buffers
-  pub same-call : (s t : List ℕ) {o p o' p' : List ℕ} {r r' : Counted} → ReadsIn f (mended_in f) s o (Done r) o' → ReadsIn f (mended_in f) t p (Done r') p'
+  pub same-call : (s t : List ℕ) {o p o' p' : List ℕ} {r r' : Counted} → ReadsIn f (mended_in f) s o (Ok r) o' → ReadsIn f (mended_in f) t p (Ok r') p'
       → (filled_front r o' ≡ filled_front r' p') ↔ (full_parts (read_in f s) ≡ full_parts (read_in f t))
   same-call s t h k = rw (done-filled h, done-filled k) (same-mended s t)

@@ -4,6 +4,7 @@ ghost use Rattle.mending.specs.Mending.{mended};
 ghost use Rattle.mending.specs.Inner.{CountReady, CountMoved, CountFits, CountPlaced};
 
 use encodings::Taken;
+use utf8::Utf8;
 
 // How far counting has come.
 #[derive(Clone, Copy)]
@@ -12,44 +13,45 @@ pub struct Count {
     pub length: usize,
 }
 
-// Counts a character.
-fn count_place(s: Count, taken: Taken) -> Count
-    requires { CountFits s taken }
-    ensures { CountPlaced s taken result }
-{
-    Count {
-        read: s.read + taken.size,
-        length: s.length + utf8::size_of(taken.code),
+impl Count {
+    // Counts a character.
+    fn place(self, taken: Taken) -> Count
+        requires { CountFits self taken }
+        ensures { CountPlaced self taken result }
+    {
+        Count {
+            read: self.read + taken.size,
+            length: self.length + utf8::size_of(taken.code),
+        }
     }
-}
 
-// Counts what passes, or else one character.
-fn count_pass(text: &[u8], s: Count) -> Count
-    requires { CountReady text.now s }
-    ensures { CountMoved text.now s result }
-{
-    let read = s.read;
-    let end = crate::unchanged::run(text, read);
-    if end == read {
-        let taken = crate::character::character_at(text, read);
-        return count_place(s, taken);
+    // Counts what passes, or else one character.
+    fn pass(self, text: &[u8]) -> Count
+        requires { CountReady text.now self }
+        ensures { CountMoved text.now self result }
+    {
+        let read = self.read;
+        let end = crate::unchanged::run(text, read);
+        if end == read {
+            let taken = crate::character::general_at::<Utf8>(text, read);
+            return self.place(taken);
+        }
+        Count {
+            read: end,
+            length: self.length + (end - read),
+        }
     }
-    Count {
-        read: end,
-        length: s.length + (end - read),
-    }
-}
 
-// Counts a syllable of letters, or else what comes.
-fn count_advance(text: &[u8], s: Count) -> Count
-    requires { CountReady text.now s }
-    ensures { CountMoved text.now s result }
-{
-    let spelled = crate::spelled::spelled_at(text, s.read);
-    if spelled.size == 0 {
-        return count_pass(text, s);
+    // Counts a syllable of letters, or else what comes.
+    fn advance(self, text: &[u8]) -> Count
+        requires { CountReady text.now self }
+        ensures { CountMoved text.now self result }
+    {
+        match crate::spelled::spelled_at(text, self.read) {
+            Some(spelled) => self.place(spelled),
+            None => self.pass(text),
+        }
     }
-    count_place(s, spelled)
 }
 
 // How long the mended text is.
@@ -58,8 +60,9 @@ pub(crate) fn mended_count(text: &[u8]) -> usize
     ensures { result ≡ length (mended text.now) }
 {
     let mut s = Count { read: 0, length: 0 };
+    // a while: a turn reads as many bytes as it takes
     while s.read < text.len() {
-        s = count_advance(text, s);
+        s = s.advance(text);
     }
     s.length
 }

@@ -9,7 +9,7 @@ mod spelled;
 mod text;
 mod unchanged;
 
-pub use character::goes_on;
+pub use character::{general_at, goes_on};
 pub use fast::character_at;
 pub use length::Count;
 pub use text::{At, mend};

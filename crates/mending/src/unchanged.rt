@@ -36,6 +36,7 @@ fn eights(text: &[u8], from: usize) -> usize
     ensures { Passes text.now from result }
 {
     let mut at = from;
+    // a while: a for over chunks_exact(8) would lose at which index it stops
     while text.len() - at >= 8 {
         if !are_low(
             text[at],
@@ -59,14 +60,12 @@ fn ones(text: &[u8], from: usize) -> usize
     requires { from ≤ length text.now }
     ensures { Passes text.now from result }
 {
-    let mut at = from;
-    while at < text.len() {
+    for at in from..text.len() {
         if text[at] >= 0x80 {
             return at;
         }
-        at += 1;
     }
-    at
+    text.len()
 }
 
 // ASCII, if the text goes on so. Here, in `syllables` and in `run` the end of the text is tested
@@ -90,45 +89,17 @@ fn ascii(text: &[u8], from: usize) -> usize
 fn is_lead(a: u8, b: u8) -> bool
     ensures { result ≡ true → Lead a b }
 {
-    let both = a as u32 * 0x100 + b as u32;
-    if both < 0xEA80 {
-        return false;
+    match a as u32 * 0x100 + b as u32 {
+        0xEA80..=0xED9F => utf8::is_continuation(b),
+        _ => false,
     }
-    if both > 0xED9F {
-        return false;
-    }
-    utf8::is_continuation(b)
 }
 
 // A character from A000 to D7FF, and after it no letter of the block 1100–11FF.
 pub(crate) fn is_three(a: u8, b: u8, c: u8, d: u8) -> bool
     ensures { result ≡ true → Three a b c d }
 {
-    if a < 0xEA {
-        return false;
-    }
-    if a > 0xED {
-        return false;
-    }
-    if d == 0xE1 {
-        return false;
-    }
-    if b < 0x80 {
-        return false;
-    }
-    if b > 0xBF {
-        return false;
-    }
-    if c < 0x80 {
-        return false;
-    }
-    if c > 0xBF {
-        return false;
-    }
-    if a < 0xED {
-        return true;
-    }
-    b < 0xA0
+    is_lead(a, b) && utf8::is_continuation(c) && d != 0xE1
 }
 
 // Characters from A000 to D7FF to which nothing can join, as long as there are four bytes. A byte
@@ -138,6 +109,7 @@ fn threes(text: &[u8], from: usize) -> usize
     ensures { Passes text.now from result }
 {
     let mut at = from;
+    // a while: it steps by three, and looks at a fourth byte
     while text.len() - at >= 4 {
         if !is_lead(text[at], text[at + 1]) {
             return at;
@@ -197,6 +169,7 @@ pub(crate) fn passing(text: &[u8], from: usize) -> usize
     ensures { Passes text.now from result }
 {
     let mut at = from;
+    // a while: it steps by as many bytes as passed
     while at < text.len() {
         let end = run(text, at);
         if end == at {

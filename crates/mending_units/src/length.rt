@@ -6,8 +6,9 @@ ghost use Rattle.mending_units.specs.Mending.{mended_units};
 
 use encodings::Taken;
 use mending::Count;
+use utf16::Utf16;
 
-// Counts a character.
+// Counts a character. This and what follows are no methods of `Count`, which is a type of mending.
 fn count_place(s: Count, taken: Taken) -> Count
     requires { CountFitsIn form16 s taken }
     ensures { CountPlacedIn form16 s taken result }
@@ -26,7 +27,7 @@ fn count_pass(text: &[u16], s: Count) -> Count
     let read = s.read;
     let end = crate::unchanged::run(text, read);
     if end == read {
-        let taken = crate::character::character_at(text, read);
+        let taken = mending::general_at::<Utf16>(text, read);
         return count_place(s, taken);
     }
     Count {
@@ -40,11 +41,10 @@ fn count_advance(text: &[u16], s: Count) -> Count
     requires { CountReadyIn form16 text.now s }
     ensures { CountMovedIn form16 text.now s result }
 {
-    let spelled = crate::spelled::spelled_at(text, s.read);
-    if spelled.size == 0 {
-        return count_pass(text, s);
+    match crate::spelled::spelled_at(text, s.read) {
+        Some(spelled) => count_place(s, spelled),
+        None => count_pass(text, s),
     }
-    count_place(s, spelled)
 }
 
 // How long the mended text is.
@@ -53,6 +53,7 @@ pub(crate) fn mended_count(text: &[u16]) -> usize
     ensures { result ≡ length (mended_units text.now) }
 {
     let mut s = Count { read: 0, length: 0 };
+    // a while: a turn reads as many units as it takes
     while s.read < text.len() {
         s = count_advance(text, s);
     }

@@ -2,7 +2,6 @@
 // written as units, in one pass.
 #![tactic(auto)]
 
-mod character;
 mod length;
 mod lone;
 mod spelled;

@@ -1,33 +1,34 @@
 // Mending a text of units into a lent buffer, in one pass (document 02, #101).
 ghost use Rattle.std.specs.Prelude.{◌≡◌, ◌+◌, ◌-◌, ◌≤◌, ◌<◌, length};
-ghost use Rattle.answers.specs.Checks.{lacking};
+ghost use Rattle.answers.specs.Checks.{no_room};
+ghost use Rattle.answers.specs.Answers.{checked};
 ghost use Rattle.encodings.specs.Reading.{ReadFrontsIn, ReadsIn};
 ghost use Rattle.utf16.specs.Utf16.{form16};
 ghost use Rattle.mending.specs.Inner.{Copies, ReadyIn, MovedIn, FitsIn, PlacedIn};
 ghost use Rattle.mending_units.specs.Mending.{mended_units};
 
-use answers::{Checked, Refusal};
-use encodings::{Counted, Read, Taken};
+use answers::Refusal;
+use encodings::{Counted, Taken};
 use mending::At;
+use utf16::Utf16;
 
-// Copies the units between two indices, and answers the index after them in `out`.
+// Copies the units between two indices, and answers the index after them in `out`. One by one:
+// `copy_from_slice` calls memmove, and the archive for C calls nothing.
 fn copy(text: &[u16], from: usize, to: usize, out: &mut [u16], at: usize) -> usize
     requires from_le_to { from ≤ to }
     requires to_in_bounds { to ≤ length text.now }
     requires from_in_bounds { at + (to - from) ≤ length out.old }
     ensures { Copies text.now from to out.old at result out.new }
 {
-    let mut read = from;
     let mut written = at;
-    while read < to {
+    for read in from..to {
         out[written] = text[read];
-        read += 1;
         written += 1;
     }
     written
 }
 
-// Writes a character.
+// Writes a character. This and what follows are no methods of `At`, which is a type of mending.
 fn place(out: &mut [u16], s: At, taken: Taken) -> At
     requires { FitsIn form16 out.old s taken }
     ensures { PlacedIn form16 out.old s taken result out.new }
@@ -60,15 +61,13 @@ fn make(text: &[u16], out: &mut [u16], s: At) -> At
     requires { ReadyIn form16 text.now out.old s }
     ensures { MovedIn form16 text.now out.old s result out.new }
 {
-    let unpaired = crate::lone::unpaired_at(text, s.read);
-    if unpaired.size != 0 {
+    if let Some(unpaired) = crate::lone::unpaired_at(text, s.read) {
         return set(out, s, unpaired);
     }
-    let letter = crate::lone::letter_at(text, s.read);
-    if letter.size != 0 {
+    if let Some(letter) = crate::lone::letter_at(text, s.read) {
         return set(out, s, letter);
     }
-    let taken = crate::character::character_at(text, s.read);
+    let taken = mending::general_at::<Utf16>(text, s.read);
     place(out, s, taken)
 }
 
@@ -95,11 +94,10 @@ fn advance(text: &[u16], out: &mut [u16], s: At) -> At
     requires { ReadyIn form16 text.now out.old s }
     ensures { MovedIn form16 text.now out.old s result out.new }
 {
-    let spelled = crate::spelled::spelled_at(text, s.read);
-    if spelled.size == 0 {
-        return pass(text, out, s);
+    match crate::spelled::spelled_at(text, s.read) {
+        Some(spelled) => set(out, s, spelled),
+        None => pass(text, out, s),
     }
-    set(out, s, spelled)
 }
 
 // Writes the mended text to the front of `out`, which has room for it.
@@ -113,6 +111,7 @@ fn mend_into(text: &[u16], out: &mut [u16]) -> Counted
         written: 0,
         ills: 0,
     };
+    // a while: a turn reads as many units as it takes
     while s.read < text.len() {
         s = advance(text, out, s);
     }
@@ -122,31 +121,23 @@ fn mend_into(text: &[u16], out: &mut [u16]) -> Counted
     }
 }
 
-// 0 if `room` is enough, else the length needed. As many units as come in are always enough,
-// and then nothing is counted.
-fn mend_lacking(text: &[u16], room: usize) -> usize
+// The check of the room: 3. As many units as come in are always enough, and then nothing is
+// counted.
+fn check_mend_room(text: &[u16], room: usize) -> Result<(), Refusal>
     requires { length text.now ≤ 16384 }
-    ensures { result ≡ lacking room (length (mended_units text.now)) }
+    ensures { checked result ≡ no_room room (length (mended_units text.now)) }
 {
     if text.len() <= room {
-        return 0;
+        return Ok(());
     }
-    answers::lacking(room, crate::length::mended_count(text))
+    answers::check_room(room, crate::length::mended_count(text))
 }
 
 // Mends a text of units into a lent buffer: refusals 1 and 3.
-pub fn mend(text: &[u16], out: &mut [u16]) -> Read
+pub fn mend(text: &[u16], out: &mut [u16]) -> Result<Counted, Refusal>
     ensures { ReadsIn form16 mended_units text.now out.old result out.new }
 {
-    let checked = answers::check_units(text);
-    match checked {
-        Checked::Refused(refusal) => Read::Refused(refusal),
-        Checked::Passed => {
-            let needed = mend_lacking(text, out.len());
-            if needed != 0 {
-                return Read::Refused(Refusal::NoRoom(needed));
-            }
-            Read::Done(mend_into(text, out))
-        }
-    }
+    answers::check_units(text)?;
+    check_mend_room(text, out.len())?;
+    Ok(mend_into(text, out))
 }

@@ -29,6 +29,7 @@ fn fours(text: &[u16], from: usize) -> usize
     ensures { PassesUnits text.now from result }
 {
     let mut at = from;
+    // a while: a for over chunks_exact(4) would lose at which index it stops
     while text.len() - at >= 4 {
         if !are_plain(text[at], text[at + 1], text[at + 2], text[at + 3]) {
             return at;
@@ -53,14 +54,12 @@ fn singles(text: &[u16], from: usize) -> usize
     requires { from ≤ length text.now }
     ensures { Trails text.now from result }
 {
-    let mut at = from;
-    while at < text.len() {
+    for at in from..text.len() {
         if !is_quiet(text[at] as u32) {
             return at;
         }
-        at += 1;
     }
-    at
+    text.len()
 }
 
 // Gives the last of them back if it may be a syllable and a letter follows.

@@ -1,8 +1,8 @@
 -- Which syllable has a name, and the round trips of the two calls. It has: the first of n
 -- syllables that has the name (`from_is`, `from-none`); `named` finds the syllable that has the
 -- name, and nothing if none has it (`named_some`, `named-is`, `named_none`, `none_named`); an
--- answer is known by its reading, so each contract admits one result (`named_as-injective`,
--- `reads-name-unique`, `names-unique`); which answer reading gives (`reads-checked`, `reads-found`,
+-- answer is known by its verdict, so each contract admits one result (`reads-name-unique`,
+-- `names-unique`); which answer reading gives (`reads-checked`, `reads-found`,
 -- `reads_nothing`), and 5 IS REFUSED EXACTLY IF NO SYLLABLE HAS THE NAME (`read-refuses`,
 -- `read-refused`); THE NAME OF A SYLLABLE IS READ AS THE SYLLABLE (`read_named`), AND A NAME THAT
 -- IS READ IS THE SYLLABLE'S (`name-read`).
@@ -15,32 +15,26 @@ use native.Mathlib.Omega.{arith}
 use lib.Dec.{eqb}
 use lib.ListN.{length, take}
 use borrow.Author.Tests.{eqb-true, eqb-false}
+use Rattle.std.specs.Prelude.{Some, None, Result, Ok, Err}
 use Rattle.laws.specs.Strings.{same}
 use Rattle.laws.specs.Writing.{front}
 use Rattle.laws.proofs.Bools.{test}
 use Rattle.laws.proofs.Strings.{same_true, same_false}
 use Rattle.answers.specs.Checks.{Check, passes, refuses, in_order, takes_bytes}
 use Rattle.answers.specs.Verdicts.{done, verdict}
-use Rattle.answers.specs.Answers.{checked}
+use Rattle.answers.specs.Answers.{checked, answered}
 use Rattle.answers.specs.declared.refusal.Refusal.{Refusal}
 use Rattle.answers.specs.declared.refusal.Refusal.TheVariants.{NoName}
-use Rattle.answers.specs.declared.answer.Checked.{Checked}
-use Rattle.answers.specs.declared.answer.Checked.TheVariants.{Refused as CheckRefused}
-use Rattle.answers.specs.declared.answer.Filled.{Filled}
-use Rattle.answers.specs.declared.answer.Filled.TheVariants.{Done}
-use Rattle.answers.proofs.Answers.{filled-injective, refused_by-injective}
+use Rattle.answers.proofs.Answers.{answered-injective}
 use Rattle.answers.proofs.Orders.{passes-refuses}
 use Rattle.answers.proofs.Checks.{units-taken}
 use Rattle.answers.proofs.Verdicts.{done-not-refused, fills-done, fills-front, fills-unique, filled-whole}
 use Rattle.letters.specs.Syllables.{is_syllable, initial_of, peak_of, final_of}
 use Rattle.letters.proofs.Steps.{syllable, syllable-yes, syllable-least, syllable-most, syllable-made, initial-below, peak-below, final-below, initial-determined, peak-determined, final-determined}
 use Rattle.names.specs.Names.{name_by, name_of, named_from, named}
-use Rattle.names.specs.Naming.{no_syllable, Names, no_name, syllable_or, named_as, ReadsName}
+use Rattle.names.specs.Naming.{no_syllable, Names, no_name, syllable_or, ReadsName}
 use Rattle.names.specs.Inner.{FoundIs}
-use Rattle.names.specs.declared.read.Found.{Found}
-use Rattle.names.specs.declared.read.Found.TheVariants.{At, Nothing}
-use Rattle.names.specs.declared.read.Named.{Named}
-use Rattle.names.specs.declared.read.Named.TheVariants.{Syllable, Refused}
+use Rattle.names.specs.declared.strings.Indices.{Indices}
 use Rattle.names.proofs.Unique.{names-differ}
 use Rattle.names.proofs.Lengths.{syllable-name-most}
 use Rattle.names.proofs.Writing.{no-syllable-refuses, no-syllable-passes}
@@ -102,33 +96,19 @@ named_some s h = by (named (name_of s)) refl
 
 -- ---- each contract admits one result
 
-pub named_as-injective : (a b : Named) → named_as a ≡ named_as b → a ≡ b
-named_as-injective (Syllable s) (Syllable t) e = cc
-named_as-injective (Syllable s) (Refused r) e = cc
-named_as-injective (Refused r) (Syllable t) e = cc
-named_as-injective (Refused r) (Refused q) e = ap Refused (refused_by-injective r q e)
+pub reads-name-unique : {name : List ℕ} {a b : Result ℕ Refusal} → ReadsName name a → ReadsName name b → a ≡ b
+reads-name-unique f g = answered-injective _ _ (f.answers ∙ sym g.answers)
 
-pub reads-name-unique : {name : List ℕ} {a b : Named} → ReadsName name a → ReadsName name b → a ≡ b
-reads-name-unique f g = named_as-injective _ _ (f.answers ∙ sym g.answers)
+pub names-unique : {code : ℕ} {out o p : List ℕ} {a b : Result ℕ Refusal} → Names code out a o → Names code out b p → (a ≡ b) × (o ≡ p)
+names-unique f g = let h = fills-unique f.fills g.fills in (answered-injective _ _ h.0, h.1)
 
-pub names-unique : {code : ℕ} {out o p : List ℕ} {a b : Filled} → Names code out a o → Names code out b p → (a ≡ b) × (o ≡ p)
-names-unique f g = let h = fills-unique f.fills g.fills in (filled-injective _ _ h.0, h.1)
-
-refused-injective : {r q : Refusal} → ◌≡◌ {A = Named} (Refused r) (Refused q) → r ≡ q
+refused-injective : {r q : Refusal} → ◌≡◌ {A = Result ℕ Refusal} (Err r) (Err q) → r ≡ q
 refused-injective e = cc
 
-syllable-not-refused : {s : ℕ} {r : Refusal} → Syllable s ≡ Refused r → ⊥
+syllable-not-refused : {s : ℕ} {r : Refusal} → Ok s ≡ Err r → ⊥
 syllable-not-refused e = let z : ◌≡◌ {A = ℕ} 0 1 = cc in omega arith
 
 -- ---- when each answer of reading is given
-
--- r is what the search found
-module _ (name : List ℕ) {r : Found} (is : FoundIs name r) where
-  pub found_at : {i p f : ℕ} → r ≡ At i p f → (i < 19) × (p < 21) × (f < 28) × (name ≡ name_by i p f)
-  found_at e = rw e at is
-
-  found_nothing : r ≡ Nothing → (i p f : ℕ) → i < 19 → p < 21 → f < 28 → name ≡ name_by i p f → ⊥
-  found_nothing e = rw e at is
 
 -- the syllable of I, P and F has their name
 name-made : (i p f : ℕ) → i < 19 → p < 21 → f < 28 → name_of (syllable i p f) ≡ name_by i p f
@@ -136,37 +116,39 @@ name-made i p f hi hp hf = rw (initial-determined i p f hi hp hf, peak-determine
 
 module _ {name : List ℕ} where
   -- v is what the check said
-  pub reads-checked : {v : Checked} {r : Refusal} → checked v ≡ takes_bytes name → v ≡ CheckRefused r → ReadsName name (Refused r)
+  pub reads-checked : {v : Result (Unit {0}) Refusal} {r : Refusal} → checked v ≡ takes_bytes name → v ≡ Err r → ReadsName name (Err r)
   reads-checked e q = record { answers = simp (sym e ∙ ap checked q) }
 
   module _ (taken : takes_bytes name ≡ passes) where
-    reads-some : {s : ℕ} → named name ≡ some s → ReadsName name (Syllable s)
+    reads-some : {s : ℕ} → named name ≡ some s → ReadsName name (Ok s)
     reads-some e = record { answers = simp (taken, e) }
 
-    reads_none : named name ≡ none → ReadsName name (Refused NoName)
+    reads_none : named name ≡ none → ReadsName name (Err NoName)
     reads_none e = record { answers = simp (taken, e) }
 
-    -- r is what the search found: three indices, or none
-    module _ {r : Found} (is : FoundIs name r) where
-      pub reads-found : {i p f s : ℕ} → r ≡ At i p f → s ≡ syllable i p f → ReadsName name (Syllable s)
-      reads-found {i} {p} {f} e q =
-          let h = found_at name is e in
-          rw q (reads-some
-          (ap named (h.3 ∙ sym (name-made i p f h.0 h.1 h.2)) ∙ named_some (syllable i p f) (syllable-made i p f h.0 h.1 h.2)))
+    -- what the search found: three indices, or none
+    pub reads-found : {indices : Indices} → FoundIs name (Some indices) → {s : ℕ} → s ≡ syllable indices.initial indices.peak indices.last
+        → ReadsName name (Ok s)
+    reads-found {indices} (h, is) q =
+        let i = indices.initial in
+        let p = indices.peak in
+        let f = indices.last in
+        rw q (reads-some
+        (ap named (is ∙ sym (name-made i p f h.0 h.1 h.2)) ∙ named_some (syllable i p f) (syllable-made i p f h.0 h.1 h.2)))
 
-      pub reads_nothing : r ≡ Nothing → ReadsName name (Refused NoName)
-      reads_nothing e =
-          reads_none
-          (named_none name (λ s t q.
-          let l = syllable-least s t in
-          let m = syllable-most s t in
-          found_nothing name is e (initial_of s) (peak_of s) (final_of s) (initial-below s l m) (peak-below s l m) (final-below s l m) (sym q)))
+    pub reads_nothing : FoundIs name None → ReadsName name (Err NoName)
+    reads_nothing no_three =
+        reads_none
+        (named_none name (λ s t q.
+        let l = syllable-least s t in
+        let m = syllable-most s t in
+        no_three (initial_of s) (peak_of s) (final_of s) (initial-below s l m) (peak-below s l m) (final-below s l m) (sym q)))
 
     -- 5 IS REFUSED EXACTLY WHERE NO SYLLABLE HAS THE NAME
-    pub read-refuses : {r : Named} → Nameless name → ReadsName name r → r ≡ Refused NoName
+    pub read-refuses : {r : Result ℕ Refusal} → Nameless name → ReadsName name r → r ≡ Err NoName
     read-refuses h f = reads-name-unique f (reads_none (named_none name h))
 
-    pub read-refused : {r : Refusal} → ReadsName name (Refused r) → (r ≡ NoName) × Nameless name
+    pub read-refused : {r : Refusal} → ReadsName name (Err r) → (r ≡ NoName) × Nameless name
     read-refused {r} f = by (named name) refl
       where
         by : (o : Option ℕ) → named name ≡ o → (r ≡ NoName) × Nameless name
@@ -181,7 +163,7 @@ done-says passes (some t) e = (refl, cc)
 done-says passes none e = absurd (done-not-refused e)
 done-says (refuses number place) o e = absurd (done-not-refused e)
 
-pub reads-syllable : {name : List ℕ} {s : ℕ} → ReadsName name (Syllable s) → (takes_bytes name ≡ passes) × (named name ≡ some s)
+pub reads-syllable : {name : List ℕ} {s : ℕ} → ReadsName name (Ok s) → (takes_bytes name ≡ passes) × (named name ≡ some s)
 reads-syllable {name} f = done-says (takes_bytes name) (named name) f.answers
 
 -- naming's check passes a syllable, and nothing else
@@ -190,22 +172,22 @@ passes-syllable s e = test (is_syllable s) (λ h. h) (λ h. absurd (passes-refus
 
 -- a syllable is named if there is room
 pub names-whole : (s : ℕ) {out : List ℕ} → is_syllable s ≡ true → length (name_of s) ≤ length out
-    → Names s out (Done (length (name_of s))) (front (name_of s) out)
+    → Names s out (Ok (length (name_of s))) (front (name_of s) out)
 names-whole s h room = record { fills = filled-whole (no-syllable-passes s h) room refl }
 
 -- THE NAME OF A SYLLABLE IS READ AS THE SYLLABLE
-pub name-reads : (s : ℕ) → is_syllable s ≡ true → ReadsName (name_of s) (Syllable s)
+pub name-reads : (s : ℕ) → is_syllable s ≡ true → ReadsName (name_of s) (Ok s)
 name-reads s is = reads-some (units-taken (name_of s) (omega (arith, syllable-name-most s))) (named_some s is)
 
-pub read_named : {s k : ℕ} {out out' : List ℕ} {r : Named} → Names s out (Done k) out' → ReadsName (take k out') r → r ≡ Syllable s
+pub read_named : {s k : ℕ} {out out' : List ℕ} {r : Result ℕ Refusal} → Names s out (Ok k) out' → ReadsName (take k out') r → r ≡ Ok s
 read_named {s} f g =
     let h = fills-done f.fills in
     reads-name-unique (rw (fills-front f.fills h.1) at g) (name-reads s (passes-syllable s h.0))
 
 -- A NAME THAT IS READ IS THE SYLLABLE'S
-pub name-read : {name out out' : List ℕ} {s : ℕ} {r : Filled} → ReadsName name (Syllable s) → length name ≤ length out → Names s out r out'
-    → (r ≡ Done (length name)) × (out' ≡ front name out)
+pub name-read : {name out out' : List ℕ} {s : ℕ} {r : Result ℕ Refusal} → ReadsName name (Ok s) → length name ≤ length out → Names s out r out'
+    → (r ≡ Ok (length name)) × (out' ≡ front name out)
 name-read {name} {out} {s = s} f room g =
     let h = named-is name (reads-syllable f).1 in
     let both = names-unique g (names-whole s h.0 (rw h.1 room)) in
-    (both.0 ∙ ap (λ (l : List ℕ). Done (length l)) h.1, both.1 ∙ ap (λ (l : List ℕ). front l out) h.1)
+    (both.0 ∙ ap (λ (l : List ℕ). Ok (length l)) h.1, both.1 ∙ ap (λ (l : List ℕ). front l out) h.1)

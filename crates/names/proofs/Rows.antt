@@ -1,46 +1,15 @@
--- The tables of strings, a row of four bytes for each. One test over all rows of a table, which
--- antt computes, says that the rows are the strings (`rows_right`); a row by value then spells its
--- string (`spelled`) and is as long as it (`spells-size`).
+-- The tables of strings, whose rows are lent: a row's string is the one at the same index of the
+-- list of all strings.
 use mathlib.Core.Path.{◌≡◌, sym, ◌∙◌, ap}
-use mathlib.Core.Bool.{Bool}
-use mathlib.Core.List.{List, [], ◌∷◌}
-use Prim.Native.Nat.{ℕ, ◌*◌, ◌/◌, ◌≤◌, ◌<◌}
+use mathlib.Core.List.{List, [], map}
+use Prim.Native.Nat.{ℕ, ◌<◌}
 use native.Mathlib.Omega.{arith}
-use lib.Dec.{T}
 use lib.ListN.{length, get_or}
-use lib.Seq.{length-take-le}
-use Rattle.laws.specs.Strings.{same}
-use Rattle.laws.proofs.Bools.{T_true}
-use Rattle.laws.proofs.Strings.{same_true}
-use Rattle.laws.proofs.Tables.{every, every-at}
-use Rattle.names.specs.Inner.{table_of, part_at, string_of, Spells, StringRows}
-use Rattle.names.specs.declared.strings.Part.{Part}
+use Rattle.std.proofs.lemmas.List.{get_or-map, length-map}
+use Rattle.names.specs.Inner.{string_of}
 
--- ---- a row by value
-
-pub string-size : (part : Part) → part.length ≤ 3 → length (string_of part) ≡ part.length
-string-size part h = length-take-le part.length (part.first ∷ part.second ∷ part.third ∷ []) h
-
-pub spells-size : {part : Part} {string : List ℕ} → Spells part string → part.length ≡ length string
-spells-size {part} s = sym (string-size part s.few) ∙ ap length s.is
-
--- ---- a table
-
-abbrev pub right_row : List ℕ → ℕ → List ℕ → Bool
-right_row rows row string = same (string_of (part_at rows row)) string
-
-pub rows_right : (rows : List ℕ) (strings : List (List ℕ)) → rows ≡ table_of strings → length rows ≡ 4 * length strings
-    → T (every (right_row rows) 0 strings) → StringRows (length strings) rows strings
-rows_right rows strings is size t = record {
-  is = is;
-  size = size;
-  spells = λ row h. record { is = same_true _ _ (T_true _ (every-at (right_row rows) [] strings t row h)); few = omega arith };
-}
-
-module _ (row : ℕ) {count : ℕ} {rows : List ℕ} {strings : List (List ℕ)} (are : StringRows count rows strings) (inside : row < count) where
-  -- it is read inside the table
-  pub row_inside : row < length rows / 4
-  row_inside = omega (arith, are.size)
-
-  pub spelled : {part : Part} → part ≡ part_at rows row → Spells part (get_or strings row [])
-  spelled e = rw e (are.spells row inside)
+pub row_is : (rows : List (List ℕ)) (row : ℕ) {strings : List (List ℕ)} → map string_of rows ≡ strings → (other : List ℕ)
+    → row < length strings → string_of (get_or rows row other) ≡ get_or strings row []
+row_is rows row are other inside =
+    sym (get_or-map string_of rows row other [] (omega (arith, ap length are, length-map rows string_of)))
+    ∙ ap (λ (l : List (List ℕ)). get_or l row []) are

@@ -5,5 +5,5 @@ mod read;
 mod strings;
 mod write;
 
-pub use read::{Named, read_name};
+pub use read::read_name;
 pub use write::name;

@@ -1,183 +1,140 @@
 // Reading a name: a search for the three strings that is left as soon as all three fit (document
 // 01, 'Names').
-ghost use Rattle.std.specs.Prelude.{◌≡◌, ◌≤◌, ◌+◌, ◌*◌, ◌<◌, drop, cond};
+ghost use Rattle.std.specs.Prelude.{◌≡◌, ◌≤◌, ◌+◌, ◌*◌, true, false, length, drop, MatchOption};
 ghost use Rattle.laws.specs.Strings.{begins, same};
-ghost use Rattle.names.specs.Names.{prefix};
 ghost use Rattle.names.specs.Naming.{ReadsName};
-ghost use Rattle.names.specs.Inner.{string_of, vowel_first, followed, InitialRows, PeakRows, FinalRows, FoundIs};
+ghost use Rattle.names.specs.Inner.{vowel_first, followed, FinalIs, PeakIs, FoundIs, Inside};
 ghost use Rattle.answers.specs.Checks.{passes, takes_bytes};
 
-use crate::strings::Part;
-use answers::{Checked, Refusal};
+use crate::strings::{self, Indices};
+use answers::Refusal;
 
-// The answer of reading a name: the syllable, or why there is none.
-#[derive(Clone, Copy)]
-pub enum Named {
-    Syllable(u32),
-    Refused(Refusal),
-}
-
-// What the search finds: I, P and F.
-#[derive(Clone, Copy)]
-pub(crate) enum Found {
-    At(usize, usize, usize),
-    Nothing,
-}
-
-// Does what is left of a name go on with a string?
-fn goes_on(rest: &[u8], part: Part) -> bool
-    requires { part.length ≤ 3 }
-    ensures { result ≡ begins (string_of part) rest.now }
+// Does what is left of a name begin with a vowel letter? Every peak's string does, and no final's.
+fn vowel_first(rest: &[u8]) -> bool
+    ensures { result ≡ vowel_first rest.now }
 {
-    if rest.len() < part.length {
+    matches!(
+        rest.first(),
+        Some(b'A' | b'E' | b'I' | b'O' | b'U' | b'W' | b'Y')
+    )
+}
+
+// Does what is left of a name go on with a string? A string has at most three letters, which are
+// compared one by one: with `starts_with`, or a loop, reading a name misses its bar of speed.
+fn goes_on(rest: &[u8], part: &[u8]) -> bool
+    requires { length part.now ≤ 3 }
+    ensures { result ≡ begins part.now rest.now }
+{
+    if rest.len() < part.len() {
         return false;
     }
-    if part.length == 0 {
-        return true;
+    match part {
+        [] => true,
+        [first] => rest[0] == *first,
+        [first, second] => rest[0] == *first && rest[1] == *second,
+        [first, second, third, ..] => {
+            rest[0] == *first && rest[1] == *second && rest[2] == *third
+        }
     }
-    if rest[0] != part.first {
-        return false;
-    }
-    if part.length == 1 {
-        return true;
-    }
-    if rest[1] != part.second {
-        return false;
-    }
-    if part.length == 2 {
-        return true;
-    }
-    rest[2] == part.third
 }
 
 // Is what is left of a name a string, with nothing after it?
-fn ends(rest: &[u8], part: Part) -> bool
-    requires { part.length ≤ 3 }
-    ensures { result ≡ same (string_of part) rest.now }
+fn ends(rest: &[u8], part: &[u8]) -> bool
+    requires { length part.now ≤ 3 }
+    ensures { result ≡ same part.now rest.now }
 {
-    if rest.len() != part.length {
+    if rest.len() != part.len() {
         return false;
     }
     goes_on(rest, part)
 }
 
-// Does a vowel letter stand at an index? Every peak's string begins with one, and no final's does.
-fn vowel_at(rest: &[u8], at: usize) -> bool
-    ensures { result ≡ vowel_first (drop at rest.now) }
-{
-    if rest.len() <= at {
-        return false;
-    }
-    match rest[at] {
-        b'A' | b'E' | b'I' | b'O' | b'U' | b'W' | b'Y' => true,
-        _ => false,
-    }
-}
-
-// Does what is left of a name go on with a string, and after it with a vowel letter, or with none?
-// If not, the next table need not be searched.
-fn fits(rest: &[u8], part: Part, vowel: bool) -> bool
-    requires { part.length ≤ 3 }
-    ensures { result ≡ followed (string_of part) vowel rest.now }
+// What stands after a string, if what is left of a name goes on with the string, and after it with
+// a vowel letter, or with none. If not, the next table need not be searched.
+fn after<'a>(rest: &'a [u8], part: &[u8], vowel: bool) -> Option<&'a [u8]>
+    requires { length part.now ≤ 3 }
+    ensures { MatchOption result (followed part.now vowel rest.now ≡ false) (λ left. (followed part.now vowel rest.now ≡ true) × (left.now ≡ drop (length part.now) rest.now)) }
 {
     if !goes_on(rest, part) {
-        return false;
+        return None;
     }
-    vowel_at(rest, part.length) == vowel
+    let left = &rest[part.len()..];
+    (vowel_first(left) == vowel).then_some(left)
 }
 
-// Does the name begin with "HANGUL SYLLABLE "?
-fn begins_so(name: &[u8]) -> bool
-    ensures { result ≡ begins prefix name.now }
+// The final whose string is all that is left of a name.
+fn find_last(rest: &[u8]) -> Option<usize>
+    ensures { FinalIs rest.now result }
 {
-    let prefix = b"HANGUL SYLLABLE ";
-    if name.len() < 16 {
-        return false;
-    }
-    let mut at = 0;
-    while at < 16 {
-        if name[at] != prefix[at] {
-            return false;
+    for (last, row) in strings::finals().iter().enumerate() {
+        let string = strings::letters(row);
+        if ends(rest, string) {
+            return Some(last);
         }
-        at += 1;
     }
-    true
+    None
 }
 
-// Where the search of a table of so many rows begins: at its first row if what stands before fits,
-// else after its last row, so that no row is looked at.
-fn start(fits: bool, rows: usize) -> usize
-    ensures { result ≡ cond fits 0 rows }
+// The peak and the final whose strings are what is left of a name. The finals are searched only if
+// the peak's string fits.
+fn find_peak(rest: &[u8]) -> Option<(usize, usize)>
+    ensures { PeakIs rest.now result }
 {
-    if fits {
-        return 0;
+    for (peak, row) in strings::peaks().iter().enumerate() {
+        let string = strings::letters(row);
+        if let Some(rest) = after(rest, string, false) {
+            if let Some(last) = find_last(rest) {
+                return Some((peak, last));
+            }
+        }
     }
-    rows
+    None
 }
 
-// The three indices whose strings are the name. An inner table is searched only if the outer
-// string fits, and the search is left as soon as all three fit.
-fn search(name: &[u8], initials: &[u8], peaks: &[u8], finals: &[u8]) -> Found
-    requires initial_rows { InitialRows initials.now }
-    requires peak_rows { PeakRows peaks.now }
-    requires final_rows { FinalRows finals.now }
+// The three indices whose strings are the name. The peaks are searched only if the initial's string
+// fits, and the search is left as soon as all three fit.
+fn search(name: &[u8]) -> Option<Indices>
     ensures { FoundIs name.now result }
 {
-    let mut i = start(begins_so(name), 19);
-    let found = 'search: loop {
-        if 19 <= i {
-            break 'search Found::Nothing;
-        }
-        let initial = crate::strings::string_at(initials, i);
-        let mut p = start(fits(&name[16..], initial, true), 21);
-        while p < 21 {
-            let peak = crate::strings::string_at(peaks, p);
-            let after_initial = 16 + initial.length;
-            let mut f = start(fits(&name[after_initial..], peak, false), 28);
-            while f < 28 {
-                let after_peak = after_initial + peak.length;
-                if ends(&name[after_peak..], crate::strings::string_at(finals, f)) {
-                    break 'search Found::At(i, p, f);
-                }
-                f += 1;
+    let rest = name.strip_prefix(b"HANGUL SYLLABLE ")?;
+    for (initial, row) in strings::initials().iter().enumerate() {
+        let string = strings::letters(row);
+        if let Some(rest) = after(rest, string, true) {
+            if let Some((peak, last)) = find_peak(rest) {
+                return Some(Indices {
+                    initial,
+                    peak,
+                    last,
+                });
             }
-            p += 1;
         }
-        i += 1;
-    };
-    found
+    }
+    None
 }
 
 // The syllable of three indices.
-fn syllable_by(i: usize, p: usize, f: usize) -> u32
-    requires { (i < 19) × (p < 21) × (f < 28) }
-    ensures { result ≡ 0xAC00 + i * 588 + p * 28 + f }
+fn syllable_by(indices: Indices) -> u32
+    requires { Inside indices }
+    ensures { result ≡ 0xAC00 + indices.initial * 588 + indices.peak * 28 + indices.last }
 {
-    (0xAC00 + i * 588 + p * 28 + f) as u32
+    (0xAC00 + indices.initial * 588 + indices.peak * 28 + indices.last) as u32
 }
 
 // A name that has passed its check: refusal 5 or the syllable.
-fn read_checked(name: &[u8]) -> Named
+fn read_checked(name: &[u8]) -> Result<u32, Refusal>
     requires { takes_bytes name.now ≡ passes }
     ensures { ReadsName name.now result }
 {
-    let initials = crate::strings::initial_rows();
-    let peaks = crate::strings::peak_rows();
-    let finals = crate::strings::final_rows();
-    let found = search(name, initials, peaks, finals);
-    match found {
-        Found::At(i, p, f) => Named::Syllable(syllable_by(i, p, f)),
-        Found::Nothing => Named::Refused(Refusal::NoName),
+    match search(name) {
+        Some(indices) => Ok(syllable_by(indices)),
+        None => Err(Refusal::NoName),
     }
 }
 
 // Reads a name: refusals 1 and 5.
-pub fn read_name(name: &[u8]) -> Named
+pub fn read_name(name: &[u8]) -> Result<u32, Refusal>
     ensures { ReadsName name.now result }
 {
-    let checked = answers::check_bytes(name);
-    match checked {
-        Checked::Refused(refusal) => Named::Refused(refusal),
-        Checked::Passed => read_checked(name),
-    }
+    answers::check_bytes(name)?;
+    read_checked(name)
 }

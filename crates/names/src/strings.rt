@@ -1,61 +1,90 @@
-// The strings of names in three constant tables (document 01, 'Names'). A row has four bytes: the
-// length of the string as a digit, then the string, filled up with spaces.
-ghost use Rattle.std.specs.Prelude.{◌≡◌, ◌/◌, ◌<◌, length};
-ghost use Rattle.names.specs.Inner.{part_at, InitialRows, PeakRows, FinalRows};
+// The strings of names in three constant tables (document 01, 'Names').
+ghost use Rattle.std.specs.Prelude.{◌≡◌, ◌≤◌, ◌<◌, [], length, map, slice_index_or};
+ghost use Rattle.names.specs.Names.{initials, peaks, finals};
+ghost use Rattle.names.specs.Inner.{string_of};
 
-// A string of at most three bytes.
-#[derive(Clone, Copy)]
-pub(crate) struct Part {
-    pub first: u8,
-    pub second: u8,
-    pub third: u8,
-    pub length: usize,
+// I, P and F: what a syllable's three strings are picked by.
+#[derive(Clone, Copy, Debug, PartialEq, Eq)]
+pub(crate) struct Indices {
+    pub initial: usize,
+    pub peak: usize,
+    pub last: usize,
 }
 
-static INITIALS: [u8; 76] =
-    *b"1G  2GG 1N  1D  2DD 1R  1M  1B  2BB 1S  2SS 0   1J  2JJ 1C  1K  1T  1P  1H  ";
+// A string in four bytes: its length as a digit, then its letters, filled up with spaces. A table of
+// slices would hold addresses, which a loader has to write, and the archive for C keeps no byte that
+// can be written.
+pub(crate) type Row = [u8; 4];
 
-static PEAKS: [u8; 84] =
-    *b"1A  2AE 2YA 3YAE2EO 1E  3YEO2YE 1O  2WA 3WAE2OE 2YO 1U  3WEO2WE 2WI 2YU 2EU 2YI 1I  ";
+static INITIALS: [Row; 19] = [
+    *b"1G  ", *b"2GG ", *b"1N  ", *b"1D  ", *b"2DD ", *b"1R  ", *b"1M  ", *b"1B  ", *b"2BB ",
+    *b"1S  ", *b"2SS ", *b"0   ", *b"1J  ", *b"2JJ ", *b"1C  ", *b"1K  ", *b"1T  ", *b"1P  ",
+    *b"1H  ",
+];
 
-static FINALS: [u8; 112] =
-    *b"0   1G  2GG 2GS 1N  2NJ 2NH 1D  1L  2LG 2LM 2LB 2LS 2LT 2LP 2LH 1M  1B  2BS 1S  2SS 2NG 1J  1C  1K  1T  1P  1H  ";
+static PEAKS: [Row; 21] = [
+    *b"1A  ", *b"2AE ", *b"2YA ", *b"3YAE", *b"2EO ", *b"1E  ", *b"3YEO", *b"2YE ", *b"1O  ",
+    *b"2WA ", *b"3WAE", *b"2OE ", *b"2YO ", *b"1U  ", *b"3WEO", *b"2WE ", *b"2WI ", *b"2YU ",
+    *b"2EU ", *b"2YI ", *b"1I  ",
+];
 
-// The table of the initials' strings. It is lent, and never copied to the stack.
-pub(crate) fn initial_rows() -> &'static [u8; 76]
-    ensures value { 76 ≡ length result.now }
-    ensures initial_rows { InitialRows result.now }
+static FINALS: [Row; 28] = [
+    *b"0   ", *b"1G  ", *b"2GG ", *b"2GS ", *b"1N  ", *b"2NJ ", *b"2NH ", *b"1D  ", *b"1L  ",
+    *b"2LG ", *b"2LM ", *b"2LB ", *b"2LS ", *b"2LT ", *b"2LP ", *b"2LH ", *b"1M  ", *b"1B  ",
+    *b"2BS ", *b"1S  ", *b"2SS ", *b"2NG ", *b"1J  ", *b"1C  ", *b"1K  ", *b"1T  ", *b"1P  ",
+    *b"1H  ",
+];
+
+// The strings of the initials.
+pub(crate) fn initials() -> &'static [Row; 19]
+    ensures { map string_of result.now ≡ initials }
 {
     &INITIALS
 }
 
-// The table of the peaks' strings.
-pub(crate) fn peak_rows() -> &'static [u8; 84]
-    ensures value { 84 ≡ length result.now }
-    ensures peak_rows { PeakRows result.now }
+// The strings of the peaks.
+pub(crate) fn peaks() -> &'static [Row; 21]
+    ensures { map string_of result.now ≡ peaks }
 {
     &PEAKS
 }
 
-// The table of the finals' strings.
-pub(crate) fn final_rows() -> &'static [u8; 112]
-    ensures value { 112 ≡ length result.now }
-    ensures final_rows { FinalRows result.now }
+// The strings of the finals.
+pub(crate) fn finals() -> &'static [Row; 28]
+    ensures { map string_of result.now ≡ finals }
 {
     &FINALS
 }
 
-// The string of a row. The length is a digit from 0 to 3, so its number is the digit modulo 4; the
-// tables have no other digits, and their contracts say so.
-pub(crate) fn string_at(rows: &[u8], row: usize) -> Part
-    requires { row < length rows.now / 4 }
-    ensures { result ≡ part_at rows.now row }
+// The string of a row. The length is a digit from 0 to 3, so its number is the digit modulo 4.
+pub(crate) fn letters(row: &Row) -> &[u8]
+    ensures string { result.now ≡ string_of row.now }
+    ensures few { length result.now ≤ 3 }
 {
-    let at = 4 * row;
-    Part {
-        first: rows[at + 1],
-        second: rows[at + 2],
-        third: rows[at + 3],
-        length: (rows[at] % 4) as usize,
-    }
+    let size = (row[0] % 4) as usize;
+    &row[1..1 + size]
+}
+
+// The string of an initial.
+pub(crate) fn initial(index: usize) -> &'static [u8]
+    requires { index < 19 }
+    ensures { result.now ≡ slice_index_or initials index [] }
+{
+    letters(&initials()[index])
+}
+
+// The string of a peak.
+pub(crate) fn peak(index: usize) -> &'static [u8]
+    requires { index < 21 }
+    ensures { result.now ≡ slice_index_or peaks index [] }
+{
+    letters(&peaks()[index])
+}
+
+// The string of a final.
+pub(crate) fn last(index: usize) -> &'static [u8]
+    requires { index < 28 }
+    ensures { result.now ≡ slice_index_or finals index [] }
+{
+    letters(&finals()[index])
 }

@@ -2,114 +2,85 @@
 // (document 01, 'Names').
 ghost use Rattle.std.specs.Prelude.{◌≡◌, ◌≤◌, length, true};
 ghost use Rattle.laws.specs.Writing.{Room, Wrote};
-ghost use Rattle.answers.specs.Checks.{lacking};
+ghost use Rattle.answers.specs.Checks.{no_room};
+ghost use Rattle.answers.specs.Answers.{checked};
 ghost use Rattle.names.specs.Names.{prefix, name_by};
 ghost use Rattle.names.specs.Naming.{Names};
-ghost use Rattle.names.specs.Inner.{string_of, InitialRows, PeakRows, FinalRows, indices_of, Inside, NamesBy};
+ghost use Rattle.names.specs.Inner.{indices_of, Inside, NamesBy};
 ghost use Rattle.letters.specs.Syllables.{is_syllable};
 
-use crate::strings::Part;
-use answers::{Filled, Refusal};
-
-// I, P and F.
-#[derive(Clone, Copy)]
-pub(crate) struct Indices {
-    pub initial: usize,
-    pub peak: usize,
-    pub last: usize,
-}
-
-// Writes a string from `at` on, and answers the index after it.
-fn put_part(part: Part, out: &mut [u8], at: usize) -> usize
-    requires length_bound { part.length ≤ 3 }
-    requires room { Room out.old at (string_of part) }
-    ensures { Wrote out.old at (string_of part) result out.new }
-{
-    if part.length == 0 {
-        return at;
-    }
-    out[at] = part.first;
-    if part.length == 1 {
-        return at + 1;
-    }
-    out[at + 1] = part.second;
-    if part.length == 2 {
-        return at + 2;
-    }
-    out[at + 2] = part.third;
-    at + 3
-}
+use crate::strings::{self, Indices};
+use answers::Refusal;
 
 // Writes "HANGUL SYLLABLE " to the front, and answers the index after it.
 fn put_prefix(out: &mut [u8]) -> usize
     requires { Room out.old 0 prefix }
     ensures { Wrote out.old 0 prefix result out.new }
 {
-    let prefix = b"HANGUL SYLLABLE ";
-    let mut at = 0;
-    while at < 16 {
-        out[at] = prefix[at];
-        at += 1;
-    }
-    at
+    out[..16].copy_from_slice(b"HANGUL SYLLABLE ");
+    16
 }
 
-// 0 if `room` is enough, else the length needed. 23 bytes are always enough, and then nothing is
-// counted.
-fn name_lacking(
-    indices: Indices,
-    initials: &[u8],
-    peaks: &[u8],
-    finals: &[u8],
-    room: usize,
-) -> usize
-    requires initial_rows { InitialRows initials.now }
-    requires peak_rows { PeakRows peaks.now }
-    requires final_rows { FinalRows finals.now }
-    requires inside { Inside indices }
-    ensures { result ≡ lacking room (length (name_by indices.initial indices.peak indices.last)) }
+// Writes a string from `at` on, and answers the index after it. A string has at most three letters,
+// which are stored here: with `copy_from_slice` naming misses its bar of instructions.
+fn put_part(part: &[u8], out: &mut [u8], at: usize) -> usize
+    requires few { length part.now ≤ 3 }
+    requires room { Room out.old at part.now }
+    ensures { Wrote out.old at part.now result out.new }
+{
+    match part {
+        [] => at,
+        [first] => {
+            out[at] = *first;
+            at + 1
+        }
+        [first, second] => {
+            out[at] = *first;
+            out[at + 1] = *second;
+            at + 2
+        }
+        [first, second, third, ..] => {
+            out[at] = *first;
+            out[at + 1] = *second;
+            out[at + 2] = *third;
+            at + 3
+        }
+    }
+}
+
+// The check of the room: 3. 23 bytes are always enough, and then nothing is counted.
+fn check_name_room(indices: Indices, room: usize) -> Result<(), Refusal>
+    requires { Inside indices }
+    ensures { checked result ≡ no_room room (length (name_by indices.initial indices.peak indices.last)) }
 {
     if 23 <= room {
-        return 0;
+        return Ok(());
     }
-    let initial = crate::strings::string_at(initials, indices.initial);
-    let peak = crate::strings::string_at(peaks, indices.peak);
-    let last = crate::strings::string_at(finals, indices.last);
-    answers::lacking(room, 16 + initial.length + peak.length + last.length)
+    let initial = strings::initial(indices.initial);
+    let peak = strings::peak(indices.peak);
+    let last = strings::last(indices.last);
+    answers::check_room(room, 16 + initial.len() + peak.len() + last.len())
 }
 
-// Writes the prefix and three strings to the front of `out`, which has room for them. Each string
-// is taken from its table when it is written.
-fn put_name(indices: Indices, initials: &[u8], peaks: &[u8], finals: &[u8], out: &mut [u8]) -> usize
-    requires initial_rows { InitialRows initials.now }
-    requires peak_rows { PeakRows peaks.now }
-    requires final_rows { FinalRows finals.now }
+// Writes the prefix and three strings to the front of `out`, which has room for them.
+fn put_name(indices: Indices, out: &mut [u8]) -> usize
     requires inside { Inside indices }
     requires last_in_bounds { length (name_by indices.initial indices.peak indices.last) ≤ length out.old }
     ensures { Wrote out.old 0 (name_by indices.initial indices.peak indices.last) result out.new }
 {
     let after_prefix = put_prefix(out);
-    let initial = crate::strings::string_at(initials, indices.initial);
-    let after_initial = put_part(initial, out, after_prefix);
-    let peak = crate::strings::string_at(peaks, indices.peak);
-    let after_peak = put_part(peak, out, after_initial);
-    let last = crate::strings::string_at(finals, indices.last);
-    put_part(last, out, after_peak)
+    let after_initial = put_part(strings::initial(indices.initial), out, after_prefix);
+    let after_peak = put_part(strings::peak(indices.peak), out, after_initial);
+    put_part(strings::last(indices.last), out, after_peak)
 }
 
 // Names a syllable by its three indices: refusal 3.
-fn name_by(indices: Indices, out: &mut [u8]) -> Filled
+fn name_by(indices: Indices, out: &mut [u8]) -> Result<usize, Refusal>
     requires { Inside indices }
     ensures { NamesBy indices.initial indices.peak indices.last out.old result out.new }
 {
-    let initials = crate::strings::initial_rows();
-    let peaks = crate::strings::peak_rows();
-    let finals = crate::strings::final_rows();
-    let needed = name_lacking(indices, initials, peaks, finals, out.len());
-    if needed != 0 {
-        return Filled::Refused(Refusal::NoRoom(needed));
-    }
-    Filled::Done(put_name(indices, initials, peaks, finals, out))
+    check_name_room(indices, out.len())?;
+    Ok(put_name(indices, out))
 }
 
 // The three indices of a syllable.
@@ -126,14 +97,14 @@ fn indices_of(code: u32) -> Indices
 }
 
 // Names a syllable: refusals 4 and 3.
-pub fn name(code: u32, out: &mut [u8]) -> Filled
+pub fn name(code: u32, out: &mut [u8]) -> Result<usize, Refusal>
     ensures { Names code out.old result out.new }
 {
     if code < 0xAC00 {
-        return Filled::Refused(Refusal::NoSyllable);
+        return Err(Refusal::NoSyllable);
     }
     if 0xD7A3 < code {
-        return Filled::Refused(Refusal::NoSyllable);
+        return Err(Refusal::NoSyllable);
     }
     name_by(indices_of(code), out)
 }

@@ -12,7 +12,7 @@ use Rattle.utf16.specs.Utf16.{form16}
 use Rattle.names.specs.Names.{name_of, named}
 use Rattle.names.specs.Naming.{no_syllable, no_name, syllable_or}
 use Rattle.ranking.specs.Ranking.{order_number, rank_bytes, takes_two_bytes}
-use Rattle.ranking.specs.declared.order.Order.{Order}
+use Rattle.std.specs.declared.cmp.Ordering.{Ordering}
 use Rattle.pulphopper.specs.declared.answer.Answer.{Answer}
 
 -- a verdict of a call that reads bytes or units: the value is a length, and the count that of the
@@ -27,7 +27,7 @@ plain_answer (done value) = record { refusal = 0; count = 0; value = value }
 plain_answer (refused number place) = record { refusal = number; count = 0; value = place }
 
 -- a verdict of a call that ranks: the value is the number of the order
-abbrev pub order_answer : Verdict Order → Answer
+abbrev pub order_answer : Verdict Ordering → Answer
 order_answer (done order) = record { refusal = 0; count = 0; value = order_number order }
 order_answer (refused number place) = record { refusal = number; count = 0; value = place }
 

@@ -3,19 +3,14 @@ ghost use Rattle.std.specs.Prelude.{◌≡◌};
 ghost use Rattle.pulphopper.specs.Replies.{Mends, MendsUnits, NamesForC, ReadsNameForC, RanksForC};
 
 use crate::answer::Answer;
-use answers::Filled;
-use encodings::Read;
-use names::Named;
-use ranking::Ranked;
 
 // Mends a text of bytes: value is the bytes written, count the ill-formed subparts.
 pub fn pulphopper_mend(text: &[u8], out: &mut [u8]) -> Answer
     ensures { Mends text.now out.old result out.new }
 {
-    let answer = mending::mend(text, out);
-    match answer {
-        Read::Done(counted) => crate::answer::counted(counted),
-        Read::Refused(refusal) => crate::answer::refused(refusal),
+    match mending::mend(text, out) {
+        Ok(counted) => crate::answer::counted(counted),
+        Err(refusal) => crate::answer::refused(refusal),
     }
 }
 
@@ -23,10 +18,9 @@ pub fn pulphopper_mend(text: &[u8], out: &mut [u8]) -> Answer
 pub fn pulphopper_mend_units(text: &[u16], out: &mut [u16]) -> Answer
     ensures { MendsUnits text.now out.old result out.new }
 {
-    let answer = mending_units::mend(text, out);
-    match answer {
-        Read::Done(counted) => crate::answer::counted(counted),
-        Read::Refused(refusal) => crate::answer::refused(refusal),
+    match mending_units::mend(text, out) {
+        Ok(counted) => crate::answer::counted(counted),
+        Err(refusal) => crate::answer::refused(refusal),
     }
 }
 
@@ -34,14 +28,13 @@ pub fn pulphopper_mend_units(text: &[u16], out: &mut [u16]) -> Answer
 pub fn pulphopper_name(code: u32, out: &mut [u8]) -> Answer
     ensures { NamesForC code out.old result out.new }
 {
-    let answer = names::name(code, out);
-    match answer {
-        Filled::Done(length) => Answer {
+    match names::name(code, out) {
+        Ok(length) => Answer {
             refusal: 0,
             count: 0,
             value: length as u64,
         },
-        Filled::Refused(refusal) => crate::answer::refused(refusal),
+        Err(refusal) => crate::answer::refused(refusal),
     }
 }
 
@@ -49,14 +42,13 @@ pub fn pulphopper_name(code: u32, out: &mut [u8]) -> Answer
 pub fn pulphopper_read_name(name: &[u8]) -> Answer
     ensures { ReadsNameForC name.now result }
 {
-    let answer = names::read_name(name);
-    match answer {
-        Named::Syllable(code) => Answer {
+    match names::read_name(name) {
+        Ok(code) => Answer {
             refusal: 0,
             count: 0,
             value: code as u64,
         },
-        Named::Refused(refusal) => crate::answer::refused(refusal),
+        Err(refusal) => crate::answer::refused(refusal),
     }
 }
 
@@ -65,13 +57,12 @@ pub fn pulphopper_read_name(name: &[u8]) -> Answer
 pub fn pulphopper_rank(first: &[u8], second: &[u8]) -> Answer
     ensures { RanksForC first.now second.now result }
 {
-    let answer = ranking::rank_bytes(first, second);
-    match answer {
-        Ranked::Stands(order) => Answer {
+    match ranking::rank_bytes(first, second) {
+        Ok(order) => Answer {
             refusal: 0,
             count: 0,
             value: ranking::number_of(order) as u64,
         },
-        Ranked::Refused(refusal) => crate::answer::refused(refusal),
+        Err(refusal) => crate::answer::refused(refusal),
     }
 }

@@ -1,36 +1,31 @@
 -- The calls. In order: the checks of two texts, of code points (`two-first-over`,
--- `two-second-over`, `two-first-bad`, `two-second-bad`, `two-passed`) and of bytes (`bytes-first`,
--- `bytes-second`), and back (`two-short`, `two-bytes-short`); the ways in which a call returns
--- (`ranks-refused`, `ranks-stands`, `ranks-bytes-refused`, `ranks-bytes-stands`); its answers are
--- known by their verdicts (`ranked-injective`, `ranks-unique`, `ranks-bytes-unique`); RANKING UTF-8
--- IS RANKING WHAT MENDING READS (`two-taken`, `two-bytes-taken`, `read-filled`, `rank-reads`), and
--- mended texts stand as the texts do (`rank-mends`).
+-- `two-second-over`, `two-first-bad`, `two-second-bad`, `two-passed`) and of bytes
+-- (`bytes-second`), and back (`two-short`, `two-bytes-short`); any two results of a call are equal
+-- (`ranks-unique`, `ranks-bytes-unique`); RANKING UTF-8 IS RANKING WHAT MENDING READS
+-- (`two-taken`, `two-bytes-taken`, `read-filled`, `rank-reads`), and mended texts stand as the
+-- texts do (`rank-mends`).
 use mathlib.Core.Path.{◌≡◌, sym, ◌∙◌, ap}
 use mathlib.Core.List.{List, [], ◌∷◌}
 use Prim.Native.Nat.{ℕ, ◌≤◌, ◌<◌}
 use lib.ListN.{length, take}
+use Rattle.std.specs.Prelude.{Result, Ok, Err}
 use Rattle.answers.specs.Checks.{Check, passes, refuses, in_order, over_limit, first_bad, bad_code_point, takes_text, takes_bytes}
 use Rattle.answers.specs.Verdicts.{done}
-use Rattle.answers.specs.Answers.{checked}
+use Rattle.answers.specs.Answers.{checked, answered}
 use Rattle.answers.specs.declared.refusal.Refusal.{Refusal}
-use Rattle.answers.specs.declared.answer.Checked.{Checked}
-use Rattle.answers.specs.declared.answer.Checked.TheVariants.{Passed, Refused as CheckRefused}
-use Rattle.answers.proofs.Answers.{refused_by-injective}
+use Rattle.answers.proofs.Answers.{answered-injective}
 use Rattle.answers.proofs.Orders.{order-first, order-rest, order-one}
 use Rattle.answers.proofs.Checks.{over-limit-refuses, over-limit-passes, over-limit-kept, bad-code-point-refuses, bad-code-point-passes, units-taken, units-short}
 use Rattle.answers.proofs.Verdicts.{fills-done, fills-front}
 use Rattle.encodings.specs.declared.answer.Counted.{Counted}
-use Rattle.encodings.specs.declared.answer.Read.TheVariants.{Done}
 use Rattle.encodings.proofs.Texts.{read_taken}
 use Rattle.utf8.specs.Utf8.{read_text}
 use Rattle.utf8.specs.Reading.{Reads}
 use Rattle.utf8.proofs.Round.{encodes8}
 use Rattle.mending.specs.Mending.{mended, filled_front}
 use Rattle.mending.proofs.Damage.{done-filled}
-use Rattle.ranking.specs.Ranking.{rank, rank_bytes, takes_two, takes_two_bytes, ranked, Ranks, RanksBytes}
-use Rattle.ranking.specs.declared.order.Order.{Order}
-use Rattle.ranking.specs.declared.order.Ranked.{Ranked}
-use Rattle.ranking.specs.declared.order.Ranked.TheVariants.{Stands, Refused}
+use Rattle.ranking.specs.Ranking.{rank, rank_bytes, takes_two, takes_two_bytes, Ranks, RanksBytes}
+use Rattle.std.specs.declared.cmp.Ordering.{Ordering}
 use Rattle.ranking.proofs.Ranks.{rank-mended}
 
 -- ---- the checks
@@ -79,12 +74,8 @@ module _ (first second : List ℕ) where
             )
 
 -- two texts of bytes; v is what the check of the first said
-module _ (first second : List ℕ) {v : Checked} (said : checked v ≡ takes_bytes first) where
-  pub bytes-first : {r : Refusal} → v ≡ CheckRefused r → checked (CheckRefused r) ≡ takes_two_bytes first second
-  unfolding takes_two_bytes
-  bytes-first e = rw (← said, e)
-
-  pub bytes-second : v ≡ Passed → (w : Checked) → checked w ≡ takes_bytes second → checked w ≡ takes_two_bytes first second
+module _ (first second : List ℕ) {v : Result (Unit {0}) Refusal} (said : checked v ≡ takes_bytes first) where
+  pub bytes-second : v ≡ Ok tt → (w : Result (Unit {0}) Refusal) → checked w ≡ takes_bytes second → checked w ≡ takes_two_bytes first second
   unfolding takes_two_bytes
   bytes-second e w q = rw (← said, e) (q ∙ sym (order-one (takes_bytes second)))
 
@@ -106,36 +97,14 @@ two-bytes-short first second e =
     let p = both-pass (takes_bytes first) (takes_bytes second) [] e in
     record { first_len_bound = units-short first p.0; second_len_bound = units-short second p.1 }
 
--- ---- the returns
-
-module _ (first second : List ℕ) {v : Checked} where
-  pub ranks-refused : checked v ≡ takes_two first second → {r : Refusal} → v ≡ CheckRefused r → Ranks first second (Refused r)
-  ranks-refused said e = record { answers = rw (← said, e) }
-
-  pub ranks-stands : checked v ≡ takes_two first second → v ≡ Passed → {o : Order} → o ≡ rank first second → Ranks first second (Stands o)
-  ranks-stands said e q = record { answers = rw (← said, e, q) }
-
-  pub ranks-bytes-refused : checked v ≡ takes_two_bytes first second → {r : Refusal} → v ≡ CheckRefused r → RanksBytes first second (Refused r)
-  ranks-bytes-refused said e = record { answers = rw (← said, e) }
-
-  pub ranks-bytes-stands : checked v ≡ takes_two_bytes first second → v ≡ Passed → {o : Order} → o ≡ rank_bytes first second
-      → RanksBytes first second (Stands o)
-  ranks-bytes-stands said e q = record { answers = rw (← said, e, q) }
-
 -- ---- the answers
 
-pub ranked-injective : (a b : Ranked) → ranked a ≡ ranked b → a ≡ b
-ranked-injective (Stands m) (Stands n) e = cc
-ranked-injective (Stands m) (Refused s) e = cc
-ranked-injective (Refused r) (Stands n) e = cc
-ranked-injective (Refused r) (Refused s) e = ap Refused (refused_by-injective r s e)
-
 -- any two results that a contract admits are equal
-pub ranks-unique : (first second : List ℕ) {a b : Ranked} → Ranks first second a → Ranks first second b → a ≡ b
-ranks-unique first second f g = ranked-injective _ _ (f.answers ∙ sym g.answers)
+pub ranks-unique : (first second : List ℕ) {a b : Result Ordering Refusal} → Ranks first second a → Ranks first second b → a ≡ b
+ranks-unique first second f g = answered-injective _ _ (f.answers ∙ sym g.answers)
 
-pub ranks-bytes-unique : (first second : List ℕ) {a b : Ranked} → RanksBytes first second a → RanksBytes first second b → a ≡ b
-ranks-bytes-unique first second f g = ranked-injective _ _ (f.answers ∙ sym g.answers)
+pub ranks-bytes-unique : (first second : List ℕ) {a b : Result Ordering Refusal} → RanksBytes first second a → RanksBytes first second b → a ≡ b
+ranks-bytes-unique first second f g = answered-injective _ _ (f.answers ∙ sym g.answers)
 
 -- ---- RANKING UTF-8 IS RANKING WHAT MENDING READS
 
@@ -152,30 +121,30 @@ unfolding takes_two_bytes
 two-bytes-taken first second e f = rw (e, f)
 
 -- what a call that is done read
-pub read-filled : {text out out' : List ℕ} {r : Counted} → Reads read_text text out (Done r) out' → take r.length out' ≡ read_text text
+pub read-filled : {text out out' : List ℕ} {r : Counted} → Reads read_text text out (Ok r) out' → take r.length out' ≡ read_text text
 read-filled h = fills-front h.fills (ap (λ (c : Counted). c.length) (fills-done h.fills).1)
 
 -- whatever the buffers: ranking two texts of bytes answers what ranking the code points that were
 -- read of them answers
-pub rank-reads : (s t : List ℕ) {o o' p p' : List ℕ} {r r' : Counted} → Reads read_text s o (Done r) o' → Reads read_text t p (Done r') p'
-    → {a b : Ranked} → RanksBytes s t a → Ranks (take r.length o') (take r'.length p') b → a ≡ b
+pub rank-reads : (s t : List ℕ) {o o' p p' : List ℕ} {r r' : Counted} → Reads read_text s o (Ok r) o' → Reads read_text t p (Ok r') p'
+    → {a b : Result Ordering Refusal} → RanksBytes s t a → Ranks (take r.length o') (take r'.length p') b → a ≡ b
 unfolding rank_bytes
 rank-reads s t h k {a} {b} f g =
     let e = (fills-done h.fills).0 in
     let q = (fills-done k.fills).0 in
-    let bytes : ranked a ≡ done (rank (read_text s) (read_text t)) = rw (two-bytes-taken s t e q) at f.answers in
-    let codes : ranked b ≡ done (rank (read_text s) (read_text t)) =
+    let bytes : answered a ≡ done (rank (read_text s) (read_text t)) = rw (two-bytes-taken s t e q) at f.answers in
+    let codes : answered b ≡ done (rank (read_text s) (read_text t)) =
     rw (read-filled h, read-filled k, two-taken (read_text s) (read_text t) (read_taken encodes8 s e) (read_taken encodes8 t q)) at g.answers in
-    ranked-injective a b (bytes ∙ sym codes)
+    answered-injective a b (bytes ∙ sym codes)
 
 -- MENDED TEXTS STAND AS THE TEXTS DO, where they are short enough to be ranked
-pub rank-mends : (s t : List ℕ) {o o' p p' : List ℕ} {r r' : Counted} → Reads mended s o (Done r) o' → Reads mended t p (Done r') p'
-    → length (mended s) ≤ 16384 → length (mended t) ≤ 16384 → {a b : Ranked} → RanksBytes s t a → RanksBytes (filled_front r o') (filled_front r' p') b → a ≡ b
+pub rank-mends : (s t : List ℕ) {o o' p p' : List ℕ} {r r' : Counted} → Reads mended s o (Ok r) o' → Reads mended t p (Ok r') p'
+    → length (mended s) ≤ 16384 → length (mended t) ≤ 16384 → {a b : Result Ordering Refusal} → RanksBytes s t a → RanksBytes (filled_front r o') (filled_front r' p') b → a ≡ b
 rank-mends s t h k l m {a} {b} f g =
     let e = (fills-done h.fills).0 in
     let q = (fills-done k.fills).0 in
-    let bytes : ranked a ≡ done (rank_bytes s t) = rw (two-bytes-taken s t e q) at f.answers in
-    let again : ranked b ≡ done (rank_bytes s t) =
+    let bytes : answered a ≡ done (rank_bytes s t) = rw (two-bytes-taken s t e q) at f.answers in
+    let again : answered b ≡ done (rank_bytes s t) =
     rw (done-filled h, done-filled k, two-bytes-taken (mended s) (mended t) (units-taken (mended s) l) (units-taken (mended t) m), rank-mended s t)
     at g.answers in
-    ranked-injective a b (bytes ∙ sym again)
+    answered-injective a b (bytes ∙ sym again)

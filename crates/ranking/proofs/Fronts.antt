@@ -4,7 +4,7 @@
 use mathlib.Core.Path.{◌≡◌, refl}
 use Prim.Native.Nat.{ℕ}
 use Rattle.ranking.specs.Inner.{done_with, Closed, Steps}
-use Rattle.ranking.specs.declared.order.Order.TheVariants.{Before, After}
+use Rattle.std.specs.declared.cmp.Ordering.TheVariants.{Less, Greater}
 use Rattle.ranking.specs.declared.compare.Front.{Front}
 use Rattle.ranking.specs.declared.compare.Front.TheVariants.{End, Digit, Other}
 use Rattle.ranking.specs.declared.compare.State.TheVariants.{Apart}
@@ -15,12 +15,12 @@ closed-tags End h = tt
 closed-tags (Digit d) h = absurd (h d refl)
 closed-tags (Other c) h = tt
 
-pub end-first : (b : Front) → (b ≡ End → ⊥) → Steps Apart End b (done_with Before)
+pub end-first : (b : Front) → (b ≡ End → ⊥) → Steps Apart End b (done_with Less)
 end-first End h = absurd (h refl)
 end-first (Digit d) h = apart-end-digit d
 end-first (Other c) h = apart-end-other c
 
-pub other_last : (a : ℕ) (b : Front) → ((c : ℕ) → b ≡ Other c → ⊥) → Steps Apart (Other a) b (done_with After)
+pub other_last : (a : ℕ) (b : Front) → ((c : ℕ) → b ≡ Other c → ⊥) → Steps Apart (Other a) b (done_with Greater)
 other_last a End h = apart-other-end a
 other_last a (Digit d) h = apart-other-digit a d
 other_last a (Other c) h = absurd (h c refl)

@@ -24,8 +24,8 @@ use Rattle.mending.specs.Mending.{mended}
 use Rattle.mending.proofs.Round.{mended-read}
 use Rattle.ranking.specs.Items.{Item, number, character, is_digit, digits_value, items}
 use Rattle.ranking.specs.Ranking.{by_value, swapped, then_by, rank_item, rank_items, rank, rank_bytes, AtMost}
-use Rattle.ranking.specs.declared.order.Order.{Order}
-use Rattle.ranking.specs.declared.order.Order.TheVariants.{Before, Equal, After}
+use Rattle.std.specs.declared.cmp.Ordering.{Ordering}
+use Rattle.std.specs.declared.cmp.Ordering.TheVariants.{Less, Equal, Greater}
 use Rattle.ranking.proofs.Orders.{before-not-equal, before-not-after, after-not-equal, value_after, equal-value, by-value-self, by-value-swapped, then_equal, swapped-then, then-equal-first, then-equal-next, Chain, chain-value, chain-then, chain-most, chain-before, chain-before-any, chain-after-any, chain-any-before, chain-any-after, chain-equal-first, chain-equal-next}
 use Rattle.ranking.proofs.Items.{digit-yes, digit-most, after_none, items-digits, value_none, value-front, zero-in-front}
 
@@ -108,17 +108,17 @@ rank-chain x y z = items-chain (items (join x)) (items (join y)) (items (join z)
 pub rank-total : (x y : List ℕ) → AtMost x y ⊎ AtMost y x
 rank-total x y = by (rank x y) refl
   where
-    by : (o : Order) → rank x y ≡ o → AtMost x y ⊎ AtMost y x
-    by Before e = inl (λ q. before-not-after (sym e ∙ q))
+    by : (o : Ordering) → rank x y ≡ o → AtMost x y ⊎ AtMost y x
+    by Less e = inl (λ q. before-not-after (sym e ∙ q))
     by Equal e = inl (λ q. after-not-equal (sym q ∙ e))
-    by After e = inr (λ q. before-not-after (sym (rank-swapped x y ∙ ap swapped e) ∙ q))
+    by Greater e = inr (λ q. before-not-after (sym (rank-swapped x y ∙ ap swapped e) ∙ q))
 
 -- what is at most another, which is at most a third, is at most the third; and so with before
 module _ (x y z : List ℕ) where
   pub rank-transitive : AtMost x y → AtMost y z → AtMost x z
   rank-transitive h k = chain-most (rank x y) (rank y z) (rank x z) (rank-chain x y z) h k
 
-  pub before-transitive : rank x y ≡ Before → rank y z ≡ Before → rank x z ≡ Before
+  pub before-transitive : rank x y ≡ Less → rank y z ≡ Less → rank x z ≡ Less
   before-transitive h k = chain-before (rank x y) (rank y z) (rank x z) (rank-chain x y z) h k
 
 -- TWO LABELS ARE EQUAL EXACTLY WHERE THEIR ITEMS ARE
@@ -183,7 +183,7 @@ pub seven : rank (0x30 ∷ 0x37 ∷ []) (0x37 ∷ []) ≡ Equal
 seven = leading-zero 0x37 [] (digit-yes 0x37 (omega arith) (omega arith))
 
 -- 10 stands after 2
-pub ten-after-two : rank (0x31 ∷ 0x30 ∷ []) (0x32 ∷ []) ≡ After
+pub ten-after-two : rank (0x31 ∷ 0x30 ∷ []) (0x32 ∷ []) ≡ Greater
 ten-after-two =
     rank-numbers 0x31 (0x30 ∷ []) 0x32 []
     (also (digit-yes 0x31 (omega arith) (omega arith)) (also (digit-yes 0x30 (omega arith) (omega arith)) none))

@@ -18,8 +18,8 @@ use Rattle.laws.proofs.Bools.{test}
 use Rattle.ranking.specs.Items.{is_digit, run, digits_value, items_after, items}
 use Rattle.ranking.specs.Ranking.{by_value, then_by, rank_items}
 use Rattle.ranking.specs.Inner.{front_of, text_after, rank_from, goes_on_as, is_zero_as, done_with, both_with, zero_with, Closed, Steps}
-use Rattle.ranking.specs.declared.order.Order.{Order}
-use Rattle.ranking.specs.declared.order.Order.TheVariants.{Before, Equal, After}
+use Rattle.std.specs.declared.cmp.Ordering.{Ordering}
+use Rattle.std.specs.declared.cmp.Ordering.TheVariants.{Less, Equal, Greater}
 use Rattle.ranking.specs.declared.compare.Front.{Front}
 use Rattle.ranking.specs.declared.compare.Front.TheVariants.{End, Digit, Other}
 use Rattle.ranking.specs.declared.compare.State.{State}
@@ -66,7 +66,7 @@ longer-less x (at-digit d y p) s h =
     omega (arith, run-less x, pow-le-pow_right {n = 10} (omega arith) l, value-least d (run y) n, ap digits_value e)
 
 -- so of two that begin with no zero, the lengths may be compared first
-longest-first : {a b : Front} {x y : List ℕ} (o : Order) → View x a → View y b → Stout a → Stout b
+longest-first : {a b : Front} {x y : List ℕ} (o : Ordering) → View x a → View y b → Stout a → Stout b
     → then_by (by_value (digits_value (run x)) (digits_value (run y))) o
     ≡ then_by (by_value (length (run x)) (length (run y))) (then_by (by_value (digits_value (run x)) (digits_value (run y))) o)
 longest-first {x = x} {y = y} o v w s t =
@@ -92,7 +92,7 @@ sum-value a b p v w h k =
     (λ m. rw (value_after v w m) (value_after (b * p + v) (b * p + w) (omega arith))))))
     (λ l. rw (value_after a b l) (value_after (a * p + v) (b * p + w) (sum_less b a p w v l k)))
 
-open-digits : (o : Order) (d e : ℕ) (r q : List ℕ) (rest : Order) → digits_value r < 10 ^ length r → digits_value q < 10 ^ length q
+open-digits : (o : Ordering) (d e : ℕ) (r q : List ℕ) (rest : Ordering) → digits_value r < 10 ^ length r → digits_value q < 10 ^ length q
     → then_by (by_value (suc (length r)) (suc (length q))) (then_by o (then_by (by_value (digits_value (d ∷ r)) (digits_value (e ∷ q))) rest))
     ≡ then_by (by_value (length r) (length q)) (then_by (then_by o (by_value (d - 0x30) (e - 0x30))) (then_by (by_value (digits_value r) (digits_value q)) rest))
 open-digits o d e r q rest h k =
@@ -108,7 +108,7 @@ open-digits o d e r q rest h k =
     (ap (then_by o) (then-assoc a b rest) ∙ sym (then-assoc o a (then_by b rest))))
     (λ l. rw (value_after (length r) (length q) l, value_after (suc (length r)) (suc (length q)) (omega arith)))
 
-number_digits : (o : Order) {a b : ℕ} {x y : List ℕ} → View x (Digit a) → View y (Digit b)
+number_digits : (o : Ordering) {a b : ℕ} {x y : List ℕ} → View x (Digit a) → View y (Digit b)
     → rank_from (Number o) x y ≡ rank_from (Number (then_by o (by_value a b))) (text_after x) (text_after y)
 number_digits o (at-digit d x h) (at-digit e y k) =
     rw (run-digit d x h, run-digit e y k, after-digit d x h, after-digit e y k)
@@ -141,17 +141,17 @@ closed_after at-end s = after_none true ∙ sym (after_none false)
 closed_after (at-digit d x h) s = absurd s
 closed_after (at_other c x h) s = after-other c x h true ∙ sym (items-other c x h)
 
-number-ended : (o : Order) {a b : Front} {x y : List ℕ} → View x a → View y b → Closed a → Closed b
+number-ended : (o : Ordering) {a b : Front} {x y : List ℕ} → View x a → View y b → Closed a → Closed b
     → rank_from (Number o) x y ≡ then_by o (rank_from Apart x y)
 number-ended o v w s t =
     rw (closed_run v s, closed_run w t, closed_after v s, closed_after w t, by-value-self 0, by-value-self (digits_value []))
 
 -- ---- what a step answers
 
-no-more-steps : {G : Type 0} (o : Order) → goes_on_as (Done o) ≡ true → G
+no-more-steps : {G : Type 0} (o : Ordering) → goes_on_as (Done o) ≡ true → G
 no-more-steps o e = absurd (false≢true e)
 
-steps-done : {s : State} {a b : Front} (o : Order) → ((x y : List ℕ) → View x a → View y b → rank_from s x y ≡ o) → Steps s a b (done_with o)
+steps-done : {s : State} {a b : Front} (o : Ordering) → ((x y : List ℕ) → View x a → View y b → rank_from s x y ≡ o) → Steps s a b (done_with o)
 steps-done o h = record { ranks = λ x y e f. h x y (view_of x e) (view_of y f); on = no-more-steps o }
 
 steps-both : {s : State} {a b : Front} (t : State) → (a ≡ End → ⊥)
@@ -181,15 +181,15 @@ other-not-end c e = let z : ◌≡◌ {A = ℕ} 0 1 = cc in omega arith
 digit-not-end : (d : ℕ) → Digit d ≡ End → ⊥
 digit-not-end d e = let z : ◌≡◌ {A = ℕ} 0 1 = cc in omega arith
 
-module _ (a b : ℕ) {o : Order} (compared : o ≡ by_value a b) {r : Move} where
-  pub others-before : o ≡ Before → r ≡ done_with Before → Steps Apart (Other a) (Other b) r
-  others-before e g = rw g (steps-done Before (λ x y v w. others-rank v w ∙ rw (← compared, e)))
+module _ (a b : ℕ) {o : Ordering} (compared : o ≡ by_value a b) {r : Move} where
+  pub others-before : o ≡ Less → r ≡ done_with Less → Steps Apart (Other a) (Other b) r
+  others-before e g = rw g (steps-done Less (λ x y v w. others-rank v w ∙ rw (← compared, e)))
 
   pub others-equal : o ≡ Equal → r ≡ both_with Apart → Steps Apart (Other a) (Other b) r
   others-equal e g = rw g (steps-both Apart (other-not-end a) (λ x y v w. others-rank v w ∙ rw (← compared, e)))
 
-  pub others-after : o ≡ After → r ≡ done_with After → Steps Apart (Other a) (Other b) r
-  others-after e g = rw g (steps-done After (λ x y v w. others-rank v w ∙ rw (← compared, e)))
+  pub others-after : o ≡ Greater → r ≡ done_with Greater → Steps Apart (Other a) (Other b) r
+  others-after e g = rw g (steps-done Greater (λ x y v w. others-rank v w ∙ rw (← compared, e)))
 
 -- ---- zeros: of both numbers only zeros have passed
 
@@ -231,10 +231,10 @@ module _ (a b : ℕ) {r : Move} where
   pub digits-second-zero : b ≡ 0 → r ≡ zero_with false true → Steps Apart (Digit a) (Digit b) r
   digits-second-zero z e = digits-as-zeros a b (steps-second-zero (Digit a) (Digit b) (eq-eqb b 0 z) e)
 
-  pub number_more : (o : Order) {p q : Order} → p ≡ by_value a b → q ≡ then_by o p → r ≡ both_with (Number q) → Steps (Number o) (Digit a) (Digit b) r
+  pub number_more : (o : Ordering) {p q : Ordering} → p ≡ by_value a b → q ≡ then_by o p → r ≡ both_with (Number q) → Steps (Number o) (Digit a) (Digit b) r
   number_more o e f g = rw (g, f, e) (steps-both (Number (then_by o (by_value a b))) (digit-not-end a) (λ x y v w. number_digits o v w))
 
-  pub digits-begin : (a ≡ 0 → ⊥) → (b ≡ 0 → ⊥) → {o : Order} → o ≡ by_value a b → r ≡ both_with (Number o) → Steps Apart (Digit a) (Digit b) r
+  pub digits-begin : (a ≡ 0 → ⊥) → (b ≡ 0 → ⊥) → {o : Ordering} → o ≡ by_value a b → r ≡ both_with (Number o) → Steps Apart (Digit a) (Digit b) r
   digits-begin m n e g =
       digits-as-zeros a b (steps-stout (Digit a) (Digit b) (ne_eqb a 0 m) (ne_eqb b 0 n) (number_more Equal e refl g))
 
@@ -243,77 +243,77 @@ module _ (a b : ℕ) {r : Move} where
 ends-rank : {x y : List ℕ} → View x End → View y End → rank_from Apart x y ≡ Equal
 ends-rank at-end at-end = rw (after_none false)
 
-end-digit-rank : {b : ℕ} {x y : List ℕ} → View x End → View y (Digit b) → rank_from Apart x y ≡ Before
+end-digit-rank : {b : ℕ} {x y : List ℕ} → View x End → View y (Digit b) → rank_from Apart x y ≡ Less
 end-digit-rank at-end (at-digit e y k) = rw (after_none false, items-digit e y k)
 
-end-other-rank : {b : ℕ} {x y : List ℕ} → View x End → View y (Other b) → rank_from Apart x y ≡ Before
+end-other-rank : {b : ℕ} {x y : List ℕ} → View x End → View y (Other b) → rank_from Apart x y ≡ Less
 end-other-rank at-end (at_other e y k) = rw (after_none false, items-other e y k)
 
-digit-end-rank : {a : ℕ} {x y : List ℕ} → View x (Digit a) → View y End → rank_from Apart x y ≡ After
+digit-end-rank : {a : ℕ} {x y : List ℕ} → View x (Digit a) → View y End → rank_from Apart x y ≡ Greater
 digit-end-rank (at-digit d x h) at-end = rw (after_none false, items-digit d x h)
 
-digit-other-rank : {a b : ℕ} {x y : List ℕ} → View x (Digit a) → View y (Other b) → rank_from Apart x y ≡ Before
+digit-other-rank : {a b : ℕ} {x y : List ℕ} → View x (Digit a) → View y (Other b) → rank_from Apart x y ≡ Less
 digit-other-rank (at-digit d x h) (at_other e y k) = rw (items-digit d x h, items-other e y k)
 
-other-end-rank : {a : ℕ} {x y : List ℕ} → View x (Other a) → View y End → rank_from Apart x y ≡ After
+other-end-rank : {a : ℕ} {x y : List ℕ} → View x (Other a) → View y End → rank_from Apart x y ≡ Greater
 other-end-rank (at_other d x h) at-end = rw (after_none false, items-other d x h)
 
-other-digit-rank : {a b : ℕ} {x y : List ℕ} → View x (Other a) → View y (Digit b) → rank_from Apart x y ≡ After
+other-digit-rank : {a b : ℕ} {x y : List ℕ} → View x (Other a) → View y (Digit b) → rank_from Apart x y ≡ Greater
 other-digit-rank (at_other d x h) (at-digit e y k) = rw (items-other d x h, items-digit e y k)
 
 pub apart-ends : Steps Apart End End (done_with Equal)
 apart-ends = steps-done Equal (λ x y v w. ends-rank v w)
 
-pub apart-end-digit : (b : ℕ) → Steps Apart End (Digit b) (done_with Before)
-apart-end-digit b = steps-done Before (λ x y v w. end-digit-rank v w)
+pub apart-end-digit : (b : ℕ) → Steps Apart End (Digit b) (done_with Less)
+apart-end-digit b = steps-done Less (λ x y v w. end-digit-rank v w)
 
-pub apart-end-other : (b : ℕ) → Steps Apart End (Other b) (done_with Before)
-apart-end-other b = steps-done Before (λ x y v w. end-other-rank v w)
+pub apart-end-other : (b : ℕ) → Steps Apart End (Other b) (done_with Less)
+apart-end-other b = steps-done Less (λ x y v w. end-other-rank v w)
 
-pub apart-digit-end : (a : ℕ) → Steps Apart (Digit a) End (done_with After)
-apart-digit-end a = steps-done After (λ x y v w. digit-end-rank v w)
+pub apart-digit-end : (a : ℕ) → Steps Apart (Digit a) End (done_with Greater)
+apart-digit-end a = steps-done Greater (λ x y v w. digit-end-rank v w)
 
-pub apart-digit-other : (a b : ℕ) → Steps Apart (Digit a) (Other b) (done_with Before)
-apart-digit-other a b = steps-done Before (λ x y v w. digit-other-rank v w)
+pub apart-digit-other : (a b : ℕ) → Steps Apart (Digit a) (Other b) (done_with Less)
+apart-digit-other a b = steps-done Less (λ x y v w. digit-other-rank v w)
 
-pub apart-other-end : (a : ℕ) → Steps Apart (Other a) End (done_with After)
-apart-other-end a = steps-done After (λ x y v w. other-end-rank v w)
+pub apart-other-end : (a : ℕ) → Steps Apart (Other a) End (done_with Greater)
+apart-other-end a = steps-done Greater (λ x y v w. other-end-rank v w)
 
-pub apart-other-digit : (a b : ℕ) → Steps Apart (Other a) (Digit b) (done_with After)
-apart-other-digit a b = steps-done After (λ x y v w. other-digit-rank v w)
+pub apart-other-digit : (a b : ℕ) → Steps Apart (Other a) (Digit b) (done_with Greater)
+apart-other-digit a b = steps-done Greater (λ x y v w. other-digit-rank v w)
 
 -- ---- ended: two numbers of one length have ended
 
-module _ {a b : Front} (first : Closed a) (second : Closed b) {o : Order} where
-  pub ended-before : o ≡ Before → {r : Move} → r ≡ done_with Before → Steps (Number o) a b r
-  ended-before e g = rw (e, g) (steps-done Before (λ x y v w. number-ended Before v w first second))
+module _ {a b : Front} (first : Closed a) (second : Closed b) {o : Ordering} where
+  pub ended-before : o ≡ Less → {r : Move} → r ≡ done_with Less → Steps (Number o) a b r
+  ended-before e g = rw (e, g) (steps-done Less (λ x y v w. number-ended Less v w first second))
 
-  pub ended-after : o ≡ After → {r : Move} → r ≡ done_with After → Steps (Number o) a b r
-  ended-after e g = rw (e, g) (steps-done After (λ x y v w. number-ended After v w first second))
+  pub ended-after : o ≡ Greater → {r : Move} → r ≡ done_with Greater → Steps (Number o) a b r
+  ended-after e g = rw (e, g) (steps-done Greater (λ x y v w. number-ended Greater v w first second))
 
   pub ended-equal : o ≡ Equal → {r : Move} → Steps Apart a b r → Steps (Number o) a b r
   ended-equal e h = rw e (steps-as (λ x y v w. number-ended Equal v w first second) h)
 
 -- ---- number, where one of the two has ended and the other goes on
 
-digit-closed-rank : (o : Order) {a : ℕ} {b : Front} {x y : List ℕ} → View x (Digit a) → View y b → Closed b → rank_from (Number o) x y ≡ After
+digit-closed-rank : (o : Ordering) {a : ℕ} {b : Front} {x y : List ℕ} → View x (Digit a) → View y b → Closed b → rank_from (Number o) x y ≡ Greater
 digit-closed-rank o (at-digit d x h) w t =
     rw (run-digit d x h, closed_run w t, value_after (suc (length (run x))) 0 (omega arith))
 
-closed-digit-rank : (o : Order) {a : Front} {b : ℕ} {x y : List ℕ} → View x a → View y (Digit b) → Closed a → rank_from (Number o) x y ≡ Before
+closed-digit-rank : (o : Ordering) {a : Front} {b : ℕ} {x y : List ℕ} → View x a → View y (Digit b) → Closed a → rank_from (Number o) x y ≡ Less
 closed-digit-rank o v (at-digit e y k) s =
     rw (run-digit e y k, closed_run v s, value_before 0 (suc (length (run y))) (omega arith))
 
-module _ (o : Order) where
-  pub number-longer : (a : ℕ) (b : Front) → Closed b → Steps (Number o) (Digit a) b (done_with After)
-  number-longer a b t = steps-done After (λ x y v w. digit-closed-rank o v w t)
+module _ (o : Ordering) where
+  pub number-longer : (a : ℕ) (b : Front) → Closed b → Steps (Number o) (Digit a) b (done_with Greater)
+  number-longer a b t = steps-done Greater (λ x y v w. digit-closed-rank o v w t)
 
-  pub number-shorter : (a : Front) (b : ℕ) → Closed a → Steps (Number o) a (Digit b) (done_with Before)
-  number-shorter a b s = steps-done Before (λ x y v w. closed-digit-rank o v w s)
+  pub number-shorter : (a : Front) (b : ℕ) → Closed a → Steps (Number o) a (Digit b) (done_with Less)
+  number-shorter a b s = steps-done Less (λ x y v w. closed-digit-rank o v w s)
 
 -- ---- step
 
-pub done-stays : (o : Order) (a b : Front) {r : Move} → r ≡ done_with o → Steps (Done o) a b r
+pub done-stays : (o : Ordering) (a b : Front) {r : Move} → r ≡ done_with o → Steps (Done o) a b r
 done-stays o a b e = rw e (steps-done o (λ x y v w. refl))
 
 -- ---- settled
@@ -324,5 +324,5 @@ settled-apart = rw (after_none false)
 pub settled-zeros : Equal ≡ rank_from Zeros [] []
 settled-zeros = rw (run_none, after_none true, by-value-self (digits_value []))
 
-pub settled-number : (o : Order) → o ≡ rank_from (Number o) [] []
+pub settled-number : (o : Ordering) → o ≡ rank_from (Number o) [] []
 settled-number o = rw (run_none, after_none true, by-value-self 0, by-value-self (digits_value [])) (sym (then_equal o))

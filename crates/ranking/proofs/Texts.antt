@@ -4,18 +4,21 @@
 -- `code-three`) and of bytes (`byte-begins`); one step (`first-adds`, `second-adds`, `advances`,
 -- `fits`, `follows-none`, `follows_on`, `advanced-on`, `follows-reached`); the loops (`measure_of`,
 -- `start`, `less`, `rank-found`, `rank-bytes-found`); bytes that are alike (`plain-below` and so
--- on, `alike_at`, `alike-none`, `alike-more`, `alike-follows`).
+-- on, `alike-none`, `alike-more`, `alike-common`, `alike-follows`).
 use mathlib.Core.Path.{◌≡◌, refl, sym, ◌∙◌, ap}
 use mathlib.Core.Bool.{Bool, true, false, cond, not, false≢true}
 use mathlib.Core.Logic.{◌⊎◌, inl, inr}
 use mathlib.Core.List.{List, [], ◌∷◌, ◌++◌, append_assoc}
-use Prim.Native.Nat.{ℕ, ◌+◌, ◌-◌, ◌≤◌, ◌<◌}
+use Prim.Native.Nat.{ℕ, zero, suc, ◌+◌, ◌-◌, ◌≤◌, ◌<◌}
 use native.Mathlib.Nat.{add-zero}
+use native.Mathlib.Numerals.{add-one}
 use native.Mathlib.Omega.{arith}
 use lib.Dec.{ltb, eqb}
-use lib.ListN.{length, get_or, drop, drop_of_length-le}
+use lib.ListN.{length, get_or, take, drop, length-take, length-drop, drop_of_length-le}
 use lib.Seq.{get_or-drop}
-use borrow.Author.Tests.{ne_eqb, lt-ltb, le-ltb, ltb-true, ltb-false}
+use borrow.Author.Tests.{ne_eqb, eqb-true, lt-ltb, le-ltb, ltb-true, ltb-false}
+use Rattle.std.specs.List.{prefix_len, take_while, zip}
+use Rattle.std.proofs.lemmas.Slice.{between_to_end}
 use Rattle.laws.specs.Lists.{All, none, also}
 use Rattle.laws.proofs.Bools.{test, and_left, and_right}
 use Rattle.laws.proofs.Lists.{at-index, at-index-to, all_append}
@@ -38,8 +41,8 @@ use Rattle.mending.specs.Characters.{character_from}
 use Rattle.mending.proofs.Characters.{apart-end, grown-stops, Character, character-next}
 use Rattle.ranking.specs.Items.{is_digit}
 use Rattle.ranking.specs.Ranking.{rank, rank_bytes}
-use Rattle.ranking.specs.Inner.{text_after, next_of, rank_from, goes_on_as, is_apart_as, Passed, Steps, joined_from, mended_from, NextBegins, Reached, Follows, Advanced, WithinLimit, Advances, is_plain, Alike, AlikeAt}
-use Rattle.ranking.specs.declared.order.Order.{Order}
+use Rattle.ranking.specs.Inner.{text_after, next_of, rank_from, goes_on_as, is_apart_as, Passed, Steps, joined_from, mended_from, NextBegins, Reached, Follows, Advanced, WithinLimit, Advances, is_plain, is_alike, Alike, AlikeAt}
+use Rattle.std.specs.declared.cmp.Ordering.{Ordering}
 use Rattle.ranking.specs.declared.compare.Front.TheVariants.{End, Digit, Other}
 use Rattle.ranking.specs.declared.compare.Next.{Next}
 use Rattle.ranking.specs.declared.compare.State.{State}
@@ -290,17 +293,17 @@ found (Number o) e x y = absurd (false≢true (sym e))
 found (Done o) e x y = refl
 
 module _ {from : List ℕ → ℕ → List ℕ} {first second : List ℕ} {s : At} (f : Follows from first second start s) {g : Bool}
-    (e : g ≡ goes_on_as s.state) (ended : g ≡ false) {r : Order} (settled : r ≡ rank_from s.state [] []) where
+    (e : g ≡ goes_on_as s.state) (ended : g ≡ false) {r : Ordering} (settled : r ≡ rank_from s.state [] []) where
   loop-found : r ≡ rank_from Apart (from first 0) (from second 0)
   loop-found = settled ∙ found s.state (sym e ∙ ended) (from first s.first) (from second s.second) ∙ sym f.ranks
 
 pub rank-found : {first second : List ℕ} {s : At} → Follows joined_from first second start s → {g : Bool} → g ≡ goes_on_as s.state → g ≡ false
-    → {r : Order} → r ≡ rank_from s.state [] [] → r ≡ rank first second
+    → {r : Ordering} → r ≡ rank_from s.state [] [] → r ≡ rank first second
 unfolding rank
 rank-found f e h q = loop-found f e h q
 
 pub rank-bytes-found : {first second : List ℕ} {s : At} → Follows mended_from first second start s → {g : Bool} → g ≡ goes_on_as s.state → g ≡ false
-    → {r : Order} → r ≡ rank_from s.state [] [] → r ≡ rank_bytes first second
+    → {r : Ordering} → r ≡ rank_from s.state [] [] → r ≡ rank_bytes first second
 unfolding rank rank_bytes
 rank-bytes-found f e h q = loop-found f e h q
 
@@ -331,9 +334,24 @@ module _ (b : ℕ) where
   unfolding is_plain
   plain-no-digit e = not-true (is_digit b) (and_right (ltb b 0x80) (not (is_digit b)) e)
 
-pub alike_at : {first second : List ℕ} {i j : ℕ} → i < length first → j < length second → get_or first i 0 ≡ get_or second j 0 → {g : Bool}
-    → g ≡ is_plain (get_or first i 0) → g ≡ true → AlikeAt first second i j
-alike_at h k e p q = record { first-inside = h; second-inside = k; same = e; plain = sym p ∙ q }
+-- each byte of a common front is alike
+common-at : (x y : List ℕ) (n : ℕ) → n < prefix_len is_alike (zip x y) → AlikeAt x y n n
+common-at [] y n h = absurd (omega arith)
+common-at (a ∷ x) [] n h = absurd (omega arith)
+common-at (a ∷ x) (b ∷ y) n h = by (is_alike (a, b)) refl n h (common-at x y)
+  where
+    by : (c : Bool) → is_alike (a, b) ≡ c → (n : ℕ) → n < cond c (1 + prefix_len is_alike (zip x y)) 0
+        → ((n : ℕ) → n < prefix_len is_alike (zip x y) → AlikeAt x y n n) → AlikeAt (a ∷ x) (b ∷ y) n n
+    by true e zero h rest = record {
+      first-inside = omega arith;
+      second-inside = omega arith;
+      same = eqb-true a b (and_left (eqb a b) (is_plain a) e);
+      plain = and_right (eqb a b) (is_plain a) e;
+    }
+    by true e (suc n) h rest =
+        let p = rest n (omega arith) in
+        record { first-inside = omega (arith, p.first-inside); second-inside = omega (arith, p.second-inside); same = p.same; plain = p.plain }
+    by false e n h rest = absurd (omega arith)
 
 -- an ASCII byte is the character that begins there
 low-front : (text : List ℕ) (at : ℕ) → at < length text → get_or text at 0 < 0x80 → mended_from text at ≡ get_or text at 0 ∷ mended_from text (at + 1)
@@ -376,6 +394,27 @@ module _ {first second : List ℕ} {i j : ℕ} where
         first-inside = omega (arith, h.first-inside);
         second-inside = omega (arith, h.second-inside);
       }
+
+-- the texts' common front from the two indices on
+module _ (first second : List ℕ) (i j : ℕ) where
+  common-from : (n : ℕ) → AlikeAt (drop i first) (drop j second) n n → AlikeAt first second (i + n) (j + n)
+  common-from n a = record {
+    first-inside = omega (arith, a.first-inside, length-drop i first);
+    second-inside = omega (arith, a.second-inside, length-drop j second);
+    same = sym (get_or-drop i first n 0) ∙ a.same ∙ get_or-drop j second n 0;
+    plain = ap is_plain (sym (get_or-drop i first n 0)) ∙ a.plain;
+  }
+
+  common-front : i ≤ length first → j ≤ length second → (n : ℕ) → n ≤ prefix_len is_alike (zip (drop i first) (drop j second)) → Alike first second i j n
+  common-front h k zero l = alike-none h k
+  common-front h k (suc n) l =
+      rw (← add-one) (alike-more (common-front h k n (omega arith)) (common-from n (common-at (drop i first) (drop j second) n (omega arith))))
+
+  pub alike-common : i ≤ length first → j ≤ length second → {n : ℕ}
+      → n ≡ length (take_while is_alike (zip (take (length first - i) (drop i first)) (take (length second - j) (drop j second)))) → Alike first second i j n
+  alike-common h k {n} e =
+      let p = rw (between_to_end first i (length first) (omega arith), between_to_end second j (length second) (omega arith)) at e in
+      common-front h k n (omega (arith, p, length-take (prefix_len is_alike (zip (drop i first) (drop j second))) (zip (drop i first) (drop j second))))
 
 -- the same code points in front, none a digit, decide nothing
 same-front : (x y : List ℕ) {z : List ℕ} → All (λ c. is_digit c ≡ false) z → rank_from Apart (z ++ x) (z ++ y) ≡ rank_from Apart x y

@@ -9,7 +9,7 @@ use Rattle.joining.specs.Joining.{join}
 use Rattle.utf8.specs.Utf8.{read_text}
 use Rattle.ranking.specs.Items.{is_digit, run, digits_value, items_after, items}
 use Rattle.ranking.specs.Ranking.{by_value, then_by, rank_items}
-use Rattle.ranking.specs.declared.order.Order.{Order}
+use Rattle.std.specs.declared.cmp.Ordering.{Ordering}
 use Rattle.ranking.specs.declared.compare.Front.{Front}
 use Rattle.ranking.specs.declared.compare.Front.TheVariants.{End, Digit, Other}
 use Rattle.ranking.specs.declared.compare.Next.{Next}
@@ -42,7 +42,7 @@ next_of code size = record { front = cond (eqb size 0) End (front_as (is_digit c
 -- if a number is open, its digits that are left decide before what follows it; and once a digit
 -- that is not zero has passed, the longer number is the greater, and of two as long the digits that
 -- have passed decide first
-abbrev pub rank_from : State → List ℕ → List ℕ → Order
+abbrev pub rank_from : State → List ℕ → List ℕ → Ordering
 rank_from Apart x y = rank_items (items x) (items y)
 rank_from Zeros x y = then_by (by_value (digits_value (run x)) (digits_value (run y))) (rank_items (items_after true x) (items_after true y))
 rank_from (Number order) x y =
@@ -70,7 +70,7 @@ is_zero_as (Other c) = false
 
 -- ---- one step
 
-abbrev pub done_with : Order → Move
+abbrev pub done_with : Ordering → Move
 done_with order = record { state = Done order; first = false; second = false }
 
 abbrev pub both_with : State → Move
@@ -146,6 +146,10 @@ pub record Advances (s : At) (a b : Next) (r : At) : Type 0 where
 -- ASCII, and no digit
 unfoldable pub is_plain : ℕ → Bool
 is_plain b = ltb b 0x80 && not (is_digit b)
+
+-- the same byte, and plain
+abbrev pub is_alike : ℕ × ℕ → Bool
+is_alike p = eqb p.0 p.1 && is_plain p.0
 
 -- n bytes from the two indices on are the same characters, none a digit
 pub record Alike (first second : List ℕ) (i j n : ℕ) : Type 0 where

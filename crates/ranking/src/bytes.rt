@@ -1,40 +1,37 @@
 // Ranking two texts of UTF-8, which are read and joined as they are compared (document 01, 'Ranking
 // labels').
-ghost use Rattle.std.specs.Prelude.{◌≡◌, true, ◌≤◌, length};
+ghost use Rattle.std.specs.Prelude.{◌≡◌, ◌≤◌, length, zip, take_while};
 ghost use Rattle.answers.specs.Answers.{checked};
 ghost use Rattle.ranking.specs.Ranking.{rank_bytes, takes_two_bytes, RanksBytes};
-ghost use Rattle.ranking.specs.Inner.{mended_from, NextBegins, Reached, Follows, Advanced, is_plain, Alike, AlikeAt};
+ghost use Rattle.ranking.specs.Inner.{mended_from, NextBegins, Reached, Follows, Advanced, is_plain, is_alike, Alike};
 
 use crate::compare::{At, Next, State};
-use crate::order::{Order, Ranked};
-use answers::Checked;
+use answers::Refusal;
+use std::cmp::Ordering;
 
 // ASCII, and no digit.
 fn is_plain(byte: u8) -> bool
     ensures { result ≡ is_plain byte }
 {
-    match byte {
-        0..=0x2F => true,
-        0x3A..=0x7F => true,
-        _ => false,
-    }
+    matches!(byte, 0..=0x2F | 0x3A..=0x7F)
 }
 
-// The same byte at two indices, and plain?
-fn is_alike(first: &[u8], second: &[u8], at: usize, other: usize) -> bool
-    ensures { result ≡ true → AlikeAt first.now second.now at other }
+// The same byte, and plain?
+fn is_alike(first: u8, second: u8) -> bool
+    ensures { result ≡ is_alike (first, second) }
 {
-    if first.len() <= at {
-        return false;
-    }
-    if second.len() <= other {
-        return false;
-    }
-    let byte = first[at];
-    if byte != second[other] {
-        return false;
-    }
-    is_plain(byte)
+    first == second && is_plain(first)
+}
+
+// How many bytes from the front of both on are alike.
+fn common(first: &[u8], second: &[u8]) -> usize
+    ensures { result ≡ length (take_while is_alike (zip first.now second.now)) }
+{
+    first
+        .iter()
+        .zip(second)
+        .take_while(|(byte, other)| is_alike(**byte, **other))
+        .count()
 }
 
 // How many bytes from the two indices on are alike and plain. They decide nothing.
@@ -43,11 +40,7 @@ fn alike(first: &[u8], second: &[u8], at: usize, other: usize) -> usize
     requires other_in_bounds { other ≤ length second.now }
     ensures { Alike first.now second.now at other result }
 {
-    let mut count = 0;
-    while is_alike(first, second, at + count, other + count) {
-        count += 1;
-    }
-    count
+    common(&first[at..], &second[other..])
 }
 
 // Goes past what is alike, if an item begins here.
@@ -55,7 +48,7 @@ fn skip(first: &[u8], second: &[u8], s: At) -> At
     requires { Reached first.now second.now s }
     ensures { Follows mended_from first.now second.now s result }
 {
-    if !crate::compare::is_apart(s) {
+    if !s.is_apart() {
         return s;
     }
     let count = alike(first, second, s.first, s.second);
@@ -83,11 +76,11 @@ fn advance(first: &[u8], second: &[u8], s: At) -> At
     let from = skip(first, second, s);
     let front = next_at(first, from.first);
     let other = next_at(second, from.second);
-    crate::compare::advance(from, front, other)
+    from.advance(front, other)
 }
 
 // Two texts that have passed their check.
-fn rank_checked(first: &[u8], second: &[u8]) -> Order
+fn rank_checked(first: &[u8], second: &[u8]) -> Ordering
     requires first_len_bound { length first.now ≤ 16384 }
     requires second_len_bound { length second.now ≤ 16384 }
     ensures { result ≡ rank_bytes first.now second.now }
@@ -97,30 +90,25 @@ fn rank_checked(first: &[u8], second: &[u8]) -> Order
         first: 0,
         second: 0,
     };
-    while crate::compare::goes_on(s) {
+    // No `for`: how far a step goes is known once it is made.
+    while s.goes_on() {
         s = advance(first, second, s);
     }
-    crate::compare::settled(s)
+    s.settled()
 }
 
 // 1 for the first text, then 1 for the second.
-fn check_two(first: &[u8], second: &[u8]) -> Checked
+fn check_two(first: &[u8], second: &[u8]) -> Result<(), Refusal>
     ensures { checked result ≡ takes_two_bytes first.now second.now }
 {
-    let checked = answers::check_bytes(first);
-    match checked {
-        Checked::Refused(refusal) => Checked::Refused(refusal),
-        Checked::Passed => answers::check_bytes(second),
-    }
+    answers::check_bytes(first)?;
+    answers::check_bytes(second)
 }
 
 // Ranks two texts of UTF-8, each as mending reads it: refusal 1.
-pub fn rank_bytes(first: &[u8], second: &[u8]) -> Ranked
+pub fn rank_bytes(first: &[u8], second: &[u8]) -> Result<Ordering, Refusal>
     ensures { RanksBytes first.now second.now result }
 {
-    let checked = check_two(first, second);
-    match checked {
-        Checked::Refused(refusal) => Ranked::Refused(refusal),
-        Checked::Passed => Ranked::Stands(rank_checked(first, second)),
-    }
+    check_two(first, second)?;
+    Ok(rank_checked(first, second))
 }

@@ -5,10 +5,10 @@ ghost use Rattle.ranking.specs.Inner.{rank_from, goes_on_as, is_apart_as, next_o
 ghost use Rattle.ranking.specs.declared.compare.State.TheVariants.{Apart, Zeros, Number};
 ghost use Rattle.ranking.specs.declared.compare.Front.TheVariants.{Digit, Other};
 
-use crate::order::Order;
+use std::cmp::Ordering;
 
 // How far ranking has come in the two texts.
-#[derive(Clone, Copy)]
+#[derive(Clone, Copy, Debug, PartialEq, Eq)]
 pub(crate) struct At {
     pub state: State,
     pub first: usize,
@@ -16,7 +16,7 @@ pub(crate) struct At {
 }
 
 // What is known then, and which of the two fronts have passed.
-#[derive(Clone, Copy)]
+#[derive(Clone, Copy, Debug, PartialEq, Eq)]
 pub(crate) struct Move {
     pub state: State,
     pub first: bool,
@@ -27,16 +27,16 @@ pub(crate) struct Move {
 // number is open in both, and only zeros of it have passed. `Number`: a number is open in both,
 // equally many digits of both have passed, the first of them not zero, and these digits compare so.
 // `Done`: the answer.
-#[derive(Clone, Copy)]
+#[derive(Clone, Copy, Debug, PartialEq, Eq)]
 pub(crate) enum State {
     Apart,
     Zeros,
-    Number(Order),
-    Done(Order),
+    Number(Ordering),
+    Done(Ordering),
 }
 
 // The front, and how much of the text it takes.
-#[derive(Clone, Copy)]
+#[derive(Clone, Copy, Debug, PartialEq, Eq)]
 pub(crate) struct Next {
     pub front: Front,
     pub size: usize,
@@ -44,49 +44,51 @@ pub(crate) struct Next {
 
 // What stands in front of what is left of a label: nothing, a digit by its value, or another code
 // point.
-#[derive(Clone, Copy)]
+#[derive(Clone, Copy, Debug, PartialEq, Eq)]
 pub(crate) enum Front {
     End,
     Digit(u32),
     Other(u32),
 }
 
-// Is the answer still to be found?
-pub(crate) fn goes_on(s: At) -> bool
-    ensures { result ≡ goes_on_as s.state }
-{
-    let state = s.state;
-    match state {
-        State::Apart => true,
-        State::Zeros => true,
-        State::Number(_) => true,
-        State::Done(_) => false,
+impl At {
+    // Is the answer still to be found?
+    pub(crate) fn goes_on(self) -> bool
+        ensures { result ≡ goes_on_as self.state }
+    {
+        !matches!(self.state, State::Done(_))
     }
-}
 
-// Does an item begin?
-pub(crate) fn is_apart(s: At) -> bool
-    ensures { result ≡ is_apart_as s.state }
-{
-    let state = s.state;
-    match state {
-        State::Apart => true,
-        State::Zeros => false,
-        State::Number(_) => false,
-        State::Done(_) => false,
+    // Does an item begin?
+    pub(crate) fn is_apart(self) -> bool
+        ensures { result ≡ is_apart_as self.state }
+    {
+        matches!(self.state, State::Apart)
     }
-}
 
-// The answer, if it is found; else that of two labels that end here.
-pub(crate) fn settled(s: At) -> Order
-    ensures { result ≡ rank_from s.state [] [] }
-{
-    let state = s.state;
-    match state {
-        State::Apart => Order::Equal,
-        State::Zeros => Order::Equal,
-        State::Number(order) => order,
-        State::Done(order) => order,
+    // The answer, if it is found; else that of two labels that end here.
+    pub(crate) fn settled(self) -> Ordering
+        ensures { result ≡ rank_from self.state [] [] }
+    {
+        match self.state {
+            State::Apart => Ordering::Equal,
+            State::Zeros => Ordering::Equal,
+            State::Number(order) => order,
+            State::Done(order) => order,
+        }
+    }
+
+    // A step, from where the two fronts stand to where what is left then begins.
+    pub(crate) fn advance(self, first: Next, second: Next) -> At
+        requires { WithinLimit self first second }
+        ensures { Advances self first second result }
+    {
+        let taken = self.state.step(first.front, second.front);
+        At {
+            state: taken.state,
+            first: self.first + passing(taken.first, first.size),
+            second: self.second + passing(taken.second, second.size),
+        }
     }
 }
 
@@ -112,46 +114,61 @@ pub(crate) fn next_of(code: u32, size: usize) -> Next
     }
 }
 
-// The answer is found, and nothing has passed.
-fn done(order: Order) -> Move
-    ensures { result ≡ done_with order }
-{
-    Move {
-        state: State::Done(order),
-        first: false,
-        second: false,
+impl State {
+    // One step: what is known then, and which fronts have passed.
+    fn step(self, first: Front, second: Front) -> Move
+        ensures { Steps self first second result }
+    {
+        match self {
+            State::Apart => apart(first, second),
+            State::Zeros => zeros(first, second),
+            State::Number(order) => number(order, first, second),
+            State::Done(order) => Move::done(order),
+        }
     }
 }
 
-// Both fronts have passed.
-fn both(state: State) -> Move
-    ensures { result ≡ both_with state }
-{
-    Move {
-        state,
-        first: true,
-        second: true,
+impl Front {
+    // Is it the digit zero?
+    fn is_zero(self) -> bool
+        ensures { result ≡ is_zero_as self }
+    {
+        matches!(self, Front::Digit(0))
     }
 }
 
-// A zero in front of the first number has passed, or else one in front of the second.
-fn first_zero() -> Move
-    ensures { result ≡ zero_with true false }
-{
-    Move {
-        state: State::Zeros,
-        first: true,
-        second: false,
+impl Move {
+    // The answer is found, and nothing has passed.
+    fn done(order: Ordering) -> Move
+        ensures { result ≡ done_with order }
+    {
+        Move {
+            state: State::Done(order),
+            first: false,
+            second: false,
+        }
     }
-}
 
-fn second_zero() -> Move
-    ensures { result ≡ zero_with false true }
-{
-    Move {
-        state: State::Zeros,
-        first: false,
-        second: true,
+    // Both fronts have passed.
+    fn both(state: State) -> Move
+        ensures { result ≡ both_with state }
+    {
+        Move {
+            state,
+            first: true,
+            second: true,
+        }
+    }
+
+    // A zero has passed in front of the first number, or else of the second.
+    fn zero(first: bool, second: bool) -> Move
+        ensures { result ≡ zero_with first second }
+    {
+        Move {
+            state: State::Zeros,
+            first,
+            second,
+        }
     }
 }
 
@@ -161,9 +178,9 @@ fn others(first: u32, second: u32) -> Move
 {
     let order = crate::order::compared(first, second);
     match order {
-        Order::Before => done(Order::Before),
-        Order::Equal => both(State::Apart),
-        Order::After => done(Order::After),
+        Ordering::Less => Move::done(Ordering::Less),
+        Ordering::Equal => Move::both(State::Apart),
+        Ordering::Greater => Move::done(Ordering::Greater),
     }
 }
 
@@ -172,12 +189,12 @@ fn digits(first: u32, second: u32) -> Move
     ensures { Steps Apart (Digit first) (Digit second) result }
 {
     if first == 0 {
-        return first_zero();
+        return Move::zero(true, false);
     }
     if second == 0 {
-        return second_zero();
+        return Move::zero(false, true);
     }
-    both(State::Number(crate::order::compared(first, second)))
+    Move::both(State::Number(crate::order::compared(first, second)))
 }
 
 // Two items begin: the end before all, numbers before code points.
@@ -186,65 +203,51 @@ fn apart(first: Front, second: Front) -> Move
 {
     match first {
         Front::End => match second {
-            Front::End => done(Order::Equal),
-            _ => done(Order::Before),
+            Front::End => Move::done(Ordering::Equal),
+            _ => Move::done(Ordering::Less),
         },
         Front::Digit(digit) => match second {
-            Front::End => done(Order::After),
+            Front::End => Move::done(Ordering::Greater),
             Front::Digit(other) => digits(digit, other),
-            Front::Other(_) => done(Order::Before),
+            Front::Other(_) => Move::done(Ordering::Less),
         },
         Front::Other(code) => match second {
             Front::Other(other) => others(code, other),
-            _ => done(Order::After),
+            _ => Move::done(Ordering::Greater),
         },
     }
 }
 
 // Two numbers of one length have ended: they decide, or else what follows.
-fn ended(order: Order, first: Front, second: Front) -> Move
+fn ended(order: Ordering, first: Front, second: Front) -> Move
     requires closed { Closed first }
     requires closed_2 { Closed second }
     ensures { Steps (Number order) first second result }
 {
     match order {
-        Order::Before => done(Order::Before),
-        Order::Equal => apart(first, second),
-        Order::After => done(Order::After),
+        Ordering::Less => Move::done(Ordering::Less),
+        Ordering::Equal => apart(first, second),
+        Ordering::Greater => Move::done(Ordering::Greater),
     }
 }
 
 // Two numbers go on: the longer one is the greater, and of two as long the first digits that differ
 // decide.
-fn number(order: Order, first: Front, second: Front) -> Move
+fn number(order: Ordering, first: Front, second: Front) -> Move
     ensures { Steps (Number order) first second result }
 {
     match first {
         Front::Digit(digit) => match second {
-            Front::Digit(other) => Move {
-                state: State::Number(crate::order::followed(
-                    order,
-                    crate::order::compared(digit, other),
-                )),
-                first: true,
-                second: true,
-            },
-            _ => done(Order::After),
+            Front::Digit(other) => Move::both(State::Number(crate::order::followed(
+                order,
+                crate::order::compared(digit, other),
+            ))),
+            _ => Move::done(Ordering::Greater),
         },
         _ => match second {
-            Front::Digit(_) => done(Order::Before),
+            Front::Digit(_) => Move::done(Ordering::Less),
             _ => ended(order, first, second),
         },
-    }
-}
-
-fn is_zero(front: Front) -> bool
-    ensures { result ≡ is_zero_as front }
-{
-    match front {
-        Front::Digit(digit) => digit == 0,
-        Front::End => false,
-        Front::Other(_) => false,
     }
 }
 
@@ -252,58 +255,18 @@ fn is_zero(front: Front) -> bool
 fn zeros(first: Front, second: Front) -> Move
     ensures { Steps Zeros first second result }
 {
-    if is_zero(first) {
-        return Move {
-            state: State::Zeros,
-            first: true,
-            second: false,
-        };
+    if first.is_zero() {
+        return Move::zero(true, false);
     }
-    if is_zero(second) {
-        return Move {
-            state: State::Zeros,
-            first: false,
-            second: true,
-        };
+    if second.is_zero() {
+        return Move::zero(false, true);
     }
-    number(Order::Equal, first, second)
-}
-
-// One step: what is known then, and which fronts have passed.
-fn step(state: State, first: Front, second: Front) -> Move
-    ensures { Steps state first second result }
-{
-    match state {
-        State::Apart => apart(first, second),
-        State::Zeros => zeros(first, second),
-        State::Number(order) => number(order, first, second),
-        State::Done(order) => done(order),
-    }
+    number(Ordering::Equal, first, second)
 }
 
 // How much passes.
 fn passing(passes: bool, size: usize) -> usize
     ensures { result ≡ cond passes size 0 }
 {
-    if passes {
-        return size;
-    }
-    0
-}
-
-// A step, from where the two fronts stand to where what is left then begins.
-pub(crate) fn advance(s: At, first: Next, second: Next) -> At
-    requires { WithinLimit s first second }
-    ensures { Advances s first second result }
-{
-    let state = s.state;
-    let front = first.front;
-    let other = second.front;
-    let taken = step(state, front, other);
-    let next = taken.state;
-    At {
-        state: next,
-        first: s.first + passing(taken.first, first.size),
-        second: s.second + passing(taken.second, second.size),
-    }
+    if passes { size } else { 0 }
 }

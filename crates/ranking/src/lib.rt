@@ -7,5 +7,5 @@ mod order;
 mod text;
 
 pub use bytes::rank_bytes;
-pub use order::{Order, Ranked, compared, followed, number_of};
+pub use order::{compared, followed, number_of};
 pub use text::rank;

@@ -1,55 +1,31 @@
-// Where one label stands to another: before, equal or after.
+// Where one label stands to another: before, equal or after, which is std's `Ordering`. `compared`
+// and `followed` are std's `cmp` and `then`: they stay, since docs/PROMISES.md promises them.
 ghost use Rattle.std.specs.Prelude.{◌≡◌};
 ghost use Rattle.ranking.specs.Ranking.{by_value, then_by, order_number};
 
-use answers::Refusal;
-
-// Where the first of two labels stands.
-#[derive(Clone, Copy)]
-pub enum Order {
-    Before,
-    Equal,
-    After,
-}
-
-// The answer of a call that ranks.
-#[derive(Clone, Copy)]
-pub enum Ranked {
-    Stands(Order),
-    Refused(Refusal),
-}
+use std::cmp::Ordering;
 
 // Two numbers, by value.
-pub fn compared(first: u32, second: u32) -> Order
+pub fn compared(first: u32, second: u32) -> Ordering
     ensures { result ≡ by_value first second }
 {
-    if first < second {
-        return Order::Before;
-    }
-    if second < first {
-        return Order::After;
-    }
-    Order::Equal
+    first.cmp(&second)
 }
 
 // What the first comparison says, or if that is equal, what the next one says.
-pub fn followed(order: Order, next: Order) -> Order
+pub fn followed(order: Ordering, next: Ordering) -> Ordering
     ensures { result ≡ then_by order next }
 {
-    match order {
-        Order::Before => Order::Before,
-        Order::Equal => next,
-        Order::After => Order::After,
-    }
+    order.then(next)
 }
 
 // The number of each answer, for callers that take a number.
-pub fn number_of(order: Order) -> u32
+pub fn number_of(order: Ordering) -> u32
     ensures { result ≡ order_number order }
 {
     match order {
-        Order::Before => 0,
-        Order::Equal => 1,
-        Order::After => 2,
+        Ordering::Less => 0,
+        Ordering::Equal => 1,
+        Ordering::Greater => 2,
     }
 }

@@ -6,17 +6,14 @@ ghost use Rattle.ranking.specs.Ranking.{rank, takes_two, Ranks};
 ghost use Rattle.ranking.specs.Inner.{joined_from, NextBegins, Reached, Advanced};
 
 use crate::compare::{At, Next, State};
-use crate::order::{Order, Ranked};
-use answers::{Checked, Refusal};
+use answers::Refusal;
+use std::cmp::Ordering;
 
 // The code point at an index, or 0 after the end. 0 joins with nothing.
 fn code(text: &[u32], at: usize) -> u32
     ensures { result ≡ get_or text.now at 0 }
 {
-    if at < text.len() {
-        return text[at];
-    }
-    0
+    text.get(at).copied().unwrap_or(0)
 }
 
 // The character that begins at an index: at most three code points join to one.
@@ -29,14 +26,12 @@ fn next_at(text: &[u32], at: usize) -> Next
         return crate::compare::next_of(0, 0);
     }
     let first = text[at];
-    let two = joining::joined(first, code(text, at + 1));
-    if two == 0 {
+    let Some(two) = joining::joined(first, code(text, at + 1)) else {
         return crate::compare::next_of(first, 1);
-    }
-    let three = joining::joined(two, code(text, at + 2));
-    if three == 0 {
+    };
+    let Some(three) = joining::joined(two, code(text, at + 2)) else {
         return crate::compare::next_of(two, 2);
-    }
+    };
     crate::compare::next_of(three, 3)
 }
 
@@ -47,11 +42,11 @@ fn advance(first: &[u32], second: &[u32], s: At) -> At
 {
     let front = next_at(first, s.first);
     let other = next_at(second, s.second);
-    crate::compare::advance(s, front, other)
+    s.advance(front, other)
 }
 
 // Two texts that have passed their checks.
-fn rank_checked(first: &[u32], second: &[u32]) -> Order
+fn rank_checked(first: &[u32], second: &[u32]) -> Ordering
     requires first_len_bound { length first.now ≤ 16384 }
     requires second_len_bound { length second.now ≤ 16384 }
     ensures { result ≡ rank first.now second.now }
@@ -61,40 +56,38 @@ fn rank_checked(first: &[u32], second: &[u32]) -> Order
         first: 0,
         second: 0,
     };
-    while crate::compare::goes_on(s) {
+    // No `for`: how far a step goes is known once it is made.
+    while s.goes_on() {
         s = advance(first, second, s);
     }
-    crate::compare::settled(s)
+    s.settled()
 }
 
 // 1 for the first text, 1 for the second, then 2 likewise.
-fn check_two(first: &[u32], second: &[u32]) -> Checked
+fn check_two(first: &[u32], second: &[u32]) -> Result<(), Refusal>
     ensures { checked result ≡ takes_two first.now second.now }
 {
     if answers::LIMIT < first.len() {
-        return Checked::Refused(Refusal::OverLimit(answers::LIMIT));
+        return Err(Refusal::OverLimit(answers::LIMIT));
     }
     if answers::LIMIT < second.len() {
-        return Checked::Refused(Refusal::OverLimit(answers::LIMIT));
+        return Err(Refusal::OverLimit(answers::LIMIT));
     }
     let bad = answers::first_bad(first);
     if bad < first.len() {
-        return Checked::Refused(Refusal::BadCodePoint(bad));
+        return Err(Refusal::BadCodePoint(bad));
     }
     let other = answers::first_bad(second);
     if other < second.len() {
-        return Checked::Refused(Refusal::BadCodePoint(other));
+        return Err(Refusal::BadCodePoint(other));
     }
-    Checked::Passed
+    Ok(())
 }
 
 // Ranks two texts of code points: refusals 1 and 2.
-pub fn rank(first: &[u32], second: &[u32]) -> Ranked
+pub fn rank(first: &[u32], second: &[u32]) -> Result<Ordering, Refusal>
     ensures { Ranks first.now second.now result }
 {
-    let checked = check_two(first, second);
-    match checked {
-        Checked::Refused(refusal) => Ranked::Refused(refusal),
-        Checked::Passed => Ranked::Stands(rank_checked(first, second)),
-    }
+    check_two(first, second)?;
+    Ok(rank_checked(first, second))
 }

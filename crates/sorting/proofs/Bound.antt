@@ -8,11 +8,11 @@ use mathlib.Core.List.{List}
 use Prim.Native.Nat.{ℕ, ◌≤◌}
 use native.Mathlib.Omega.{arith}
 use lib.ListN.{length}
+use Rattle.std.specs.Prelude.{Result, Ok}
 use Rattle.laws.specs.Writing.{front}
 use Rattle.answers.specs.Checks.{passes}
 use Rattle.labels.specs.Images.{takes_image}
-use Rattle.labels.specs.declared.image.Judged.{Judged}
-use Rattle.labels.specs.declared.image.Judged.TheVariants.{Records}
+use Rattle.labels.specs.declared.image.ImageRefusal.{ImageRefusal}
 use Rattle.sorting.specs.Printing.{printed, Prints}
 use Rattle.sorting.proofs.Sorted.{order-right, order-length}
 use Rattle.sorting.proofs.Printed.{printed-full, image-printed-most, prints-enough}
@@ -27,6 +27,6 @@ module _ (image : List ℕ) where
   image-full e = printed-full (order-right image) (order-length image) (omega (arith, e))
 
   -- an image that is taken is printed if the buffer has 2,618 bytes
-  pub image-enough : takes_image image ≡ passes → (out : List ℕ) → 2618 ≤ length out → {r : Judged} {out' : List ℕ} → Prints image out r out'
-      → (r ≡ Records (length (printed image))) × (out' ≡ front (printed image) out)
+  pub image-enough : takes_image image ≡ passes → (out : List ℕ) → 2618 ≤ length out → {r : Result ℕ ImageRefusal} {out' : List ℕ} → Prints image out r out'
+      → (r ≡ Ok (length (printed image))) × (out' ≡ front (printed image) out)
   image-enough taken out room p = prints-enough image out (order-right image) (order-length image) taken room p

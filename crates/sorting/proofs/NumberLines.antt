@@ -6,8 +6,7 @@ use mathlib.Core.Path.{◌≡◌, refl, ◌∙◌, ap}
 use mathlib.Core.List.{List, [], ◌∷◌}
 use Prim.Native.Nat.{ℕ, suc, ◌+◌, ◌^◌, ◌≤◌, ◌<◌}
 use native.Mathlib.Omega.{arith}
-use lib.ListN.{length, get_or, take, drop, length-append}
-use lib.Seq.{length-take-le, get_or-take}
+use lib.ListN.{length, get_or, drop, length-append}
 use Rattle.laws.specs.Lists.{each}
 use Rattle.laws.proofs.Lists.{each-end}
 use Rattle.laws.proofs.Filling.{Piece, each-piece}
@@ -34,13 +33,12 @@ line-most n k h = omega (arith, line-length k, decimal-most n k h)
 pub u32-line : {k n : ℕ} → n ≡ length (number_line k) → k < 2 ^ 32 → n ≤ 11
 u32-line {k} e h = omega (arith, line-most 9 k (omega arith))
 
--- ---- at a loop's index, over the first n of the numbers
+-- ---- at a loop's index
 
-module _ (numbers : List ℕ) (n : ℕ) (inside : n ≤ length numbers) (i : ℕ) where
-  pub line-piece : i < n
-      → Piece (each number_line (drop i (take n numbers))) (number_line (get_or numbers i 0)) (each number_line (drop (i + 1) (take n numbers)))
-  line-piece h =
-      rw (get_or-take n numbers i 0 h) at (each-piece number_line 0 (take n numbers) i (rw (length-take-le n numbers inside) h))
+module _ (numbers : List ℕ) (i : ℕ) where
+  pub line-piece : i < length numbers
+      → Piece (each number_line (drop i numbers)) (number_line (get_or numbers i 0)) (each number_line (drop (i + 1) numbers))
+  line-piece h = each-piece number_line 0 numbers i h
 
-  pub line-end : n ≤ i → each number_line (drop i (take n numbers)) ≡ []
-  line-end h = each-end number_line (take n numbers) i (rw (length-take-le n numbers inside) h)
+  pub line-end : length numbers ≤ i → each number_line (drop i numbers) ≡ []
+  line-end h = each-end number_line numbers i h

@@ -6,7 +6,7 @@
 -- 682 records need just that many bytes (`printed-full`); what the answer of `order` says
 -- (`order-refused`, `order-bad`), and what the numbers are that it leaves (`numbers-order`,
 -- `numbers-short`, `numbers-most`, `numbers-inside`); the returns of printing, one law each
--- (`prints-refused`, `prints-bad`, `prints-lacking`, `prints-done`); ANY TWO RESULTS ARE EQUAL
+-- (`prints-refused`, `prints-lacking`, `prints-done`); ANY TWO RESULTS ARE EQUAL
 -- (`prints-unique`); A BUFFER OF 2,618 BYTES IS NEVER TOO SHORT (`prints-enough`).
 --
 -- That the order is right and how many numbers it has are premises here.
@@ -18,21 +18,21 @@ use native.Mathlib.Omega.{arith}
 use lib.Dec.{ltb}
 use lib.ListN.{length, take, drop, length-append}
 use borrow.Author.Tests.{ltb-true, ltb-false}
+use Rattle.std.specs.Prelude.{Result, Ok, Err}
 use Rattle.laws.specs.Lists.{each}
 use Rattle.laws.specs.Writing.{front, Fronts}
 use Rattle.laws.proofs.Bools.{test}
 use Rattle.laws.proofs.Lists.{each-cons}
-use Rattle.answers.specs.Checks.{Check, passes, refuses, lacking}
+use Rattle.answers.specs.Checks.{Check, passes, refuses, no_room}
 use Rattle.answers.specs.Verdicts.{done, refused, verdict, fits}
-use Rattle.answers.specs.Answers.{told}
+use Rattle.answers.specs.Answers.{told, checked}
 use Rattle.answers.specs.declared.refusal.Refusal.{Refusal}
-use Rattle.answers.specs.declared.refusal.Refusal.TheVariants.{NoRoom}
-use Rattle.answers.proofs.Checks.{no-room-passes, lacking-size, lacking-less, lacking-room}
-use Rattle.answers.proofs.Verdicts.{refused-before, refused-room, filled-whole, fills-unique, fills-done, fills-front, done-not-refused}
-use Rattle.ranking.specs.declared.order.Order.{Order}
+use Rattle.answers.proofs.Checks.{no-room-passes, no-room-kept}
+use Rattle.answers.proofs.Verdicts.{checks-passed, refused-before, refused-lacking, filled-whole, fills-unique, fills-done, fills-front, done-not-refused}
+use Rattle.std.specs.declared.cmp.Ordering.{Ordering}
 use Rattle.labels.specs.Images.{count_of, takes_image, judged_as, named_by}
-use Rattle.labels.specs.declared.image.Judged.{Judged}
-use Rattle.labels.specs.declared.image.Judged.TheVariants.{Records, Refused, BadRecord}
+use Rattle.labels.specs.declared.image.ImageRefusal.{ImageRefusal}
+use Rattle.labels.specs.declared.image.ImageRefusal.TheVariants.{Refused, BadRecord}
 use Rattle.labels.proofs.Images.{taken-short, taken-count}
 use Rattle.labels.proofs.Calls.{judged-injective}
 use Rattle.sorting.specs.Sorting.{standing, Member, here, there, InOrder, order_of, Orders}
@@ -142,11 +142,11 @@ below-most n most = test (ltb n 100) (λ q. omega (arith, ltb-true n 100 q, belo
         omega (arith, ap (λ (k : ℕ). length (each number_line (below k))) m ∙ below_more (n - 100) (omega arith))
 
 -- at most 682 numbers in order, each once
-pub printed-most : {stands : ℕ → ℕ → Order} {n : ℕ} {x : List ℕ} → InOrder stands n x → length x ≡ n → n ≤ 682 → length (each number_line x) ≤ 2618
+pub printed-most : {stands : ℕ → ℕ → Ordering} {n : ℕ} {x : List ℕ} → InOrder stands n x → length x ≡ n → n ≤ 682 → length (each number_line x) ≤ 2618
 printed-most {n = n} {x = x} good sized most = omega (arith, counted-size number_line n x good.all sized, below-most n most)
 
 -- and 682 of them are printed in just that many bytes
-pub printed-full : {stands : ℕ → ℕ → Order} {n : ℕ} {x : List ℕ} → InOrder stands n x → length x ≡ n → n ≡ 682 → length (each number_line x) ≡ 2618
+pub printed-full : {stands : ℕ → ℕ → Ordering} {n : ℕ} {x : List ℕ} → InOrder stands n x → length x ≡ n → n ≡ 682 → length (each number_line x) ≡ 2618
 printed-full {n = n} {x = x} good sized full =
     counted-size number_line n x good.all sized ∙ ap (λ (k : ℕ). length (each number_line (below k))) full ∙ below_more 582 (omega arith)
 
@@ -164,18 +164,18 @@ refused-by : (check : Check) (whole out : List ℕ) (value : ℕ) {number place 
 refused-by passes whole out value room e = absurd (done-not-refused (sym (simp (no-room-passes (length out) (length whole) (room refl)) at e)))
 refused-by (refuses a b) whole out value room e = cc
 
-module _ (image : List ℕ) (sized : length (order_of image) ≡ count_of image) {numbers numbers' : List ℕ} {r : Judged} (room : 682 ≤ length numbers)
+module _ (image : List ℕ) (sized : length (order_of image) ≡ count_of image) {numbers numbers' : List ℕ} {r : Result ℕ ImageRefusal} (room : 682 ≤ length numbers)
     (o : Orders image numbers r numbers') where
   order-room : takes_image image ≡ passes → length (order_of image) ≤ length numbers
   order-room e = omega (arith, taken-count image e)
 
-  order-refused : {s : Refusal} → r ≡ Refused s → takes_image image ≡ refuses (told s).number (told s).place
+  order-refused : {s : Refusal} → r ≡ Err (Refused s) → takes_image image ≡ refuses (told s).number (told s).place
   order-refused e = refused-by (takes_image image) (order_of image) numbers (count_of image) order-room (sym (ap judged_as e) ∙ o.fills.answers)
 
-  order-bad : {k byte : ℕ} → r ≡ BadRecord k byte → takes_image image ≡ refuses 7 byte
+  order-bad : {k byte : ℕ} → r ≡ Err (BadRecord k byte) → takes_image image ≡ refuses 7 byte
   order-bad e = refused-by (takes_image image) (order_of image) numbers (count_of image) order-room (sym (ap judged_as e) ∙ o.fills.answers)
 
-  module _ {n : ℕ} (e : r ≡ Records n) where
+  module _ {n : ℕ} (e : r ≡ Ok n) where
     order-done : (takes_image image ≡ passes) × (n ≡ count_of image) × (numbers' ≡ front (order_of image) numbers)
     order-done = fills-done (rw e at o.fills)
 
@@ -201,50 +201,49 @@ module _ (image : List ℕ) (sized : length (order_of image) ≡ count_of image)
 
   -- ---- the returns of printing
 
-  pub prints-refused : {s : Refusal} → r ≡ Refused s → (out : List ℕ) → Prints image out (Refused s) out
-  prints-refused e out = record { fills = refused-before (order-refused e); names = sym (ap named_by e) ∙ o.names }
+  pub prints-refused : (f : ImageRefusal) → r ≡ Err f → (out : List ℕ) → Prints image out (Err f) out
+  prints-refused (Refused s) e out = record { fills = refused-before (order-refused e); names = sym (ap named_by e) ∙ o.names }
+  prints-refused (BadRecord k byte) e out = record { fills = refused-before (order-bad e); names = sym (ap named_by e) ∙ o.names }
 
-  pub prints-bad : {k byte : ℕ} → r ≡ BadRecord k byte → (out : List ℕ) → Prints image out (BadRecord k byte) out
-  prints-bad e out = record { fills = refused-before (order-bad e); names = sym (ap named_by e) ∙ o.names }
-
-  module _ {n : ℕ} (e : r ≡ Records n) where
+  module _ {n : ℕ} (e : r ≡ Ok n) where
     lines-printed : each number_line (take n numbers') ≡ printed image
     unfolding printed
     lines-printed = ap (each number_line) (numbers-order e)
 
-  -- needed is what is found to be lacking
-  module _ {n : ℕ} (e : r ≡ Records n) (out : List ℕ) {needed : ℕ} (found : needed ≡ lacking (length out) (length (each number_line (take n numbers')))) where
-    pub prints-lacking : (needed ≡ 0 → ⊥) → Prints image out (Refused (NoRoom needed)) out
-    prints-lacking h = record {
-      fills = refused-room (order-done e).0 (lacking-size _ _ found h ∙ ap length (lines-printed e)) (lacking-less _ _ found h);
+  -- v is what the check of the room said
+  module _ {n : ℕ} (e : r ≡ Ok n) (out : List ℕ) {v : Result (Unit {0}) Refusal}
+      (found : checked v ≡ no_room (length out) (length (each number_line (take n numbers')))) where
+    pub prints-lacking : {s : Refusal} → v ≡ Err s → Prints image out (Err (Refused s)) out
+    prints-lacking q = record {
+      fills = refused-lacking (order-done e).0 (sym (found ∙ ap (λ (x : List ℕ). no_room (length out) (length x)) (lines-printed e)) ∙ ap checked q);
       names = sym (ap named_by e) ∙ o.names;
     }
 
-    pub prints-done : needed ≡ 0 → {size : ℕ} {out' : List ℕ} → Fronts (each number_line (take n numbers')) out size out'
-        → Prints image out (Records size) out'
+    pub prints-done : v ≡ Ok tt → {size : ℕ} {out' : List ℕ} → Fronts (each number_line (take n numbers')) out size out'
+        → Prints image out (Ok size) out'
     prints-done h {size} {out'} w =
         let v : Fronts (printed image) out size out' = rw (lines-printed e) at w in
         record {
-          fills = rw v.size (filled-whole (order-done e).0 (omega (arith, lacking-room _ _ found h, ap length (lines-printed e))) v.holds);
+          fills = rw v.size (filled-whole (order-done e).0 (omega (arith, no-room-kept _ _ (checks-passed found h), ap length (lines-printed e))) v.holds);
           names = sym (ap named_by e) ∙ o.names;
         }
 
 -- ---- ANY TWO RESULTS ARE EQUAL: printing has one answer, and leaves one buffer
-pub prints-unique : (image out : List ℕ) {r s : Judged} {o p : List ℕ} → Prints image out r o → Prints image out s p → (r ≡ s) × (o ≡ p)
+pub prints-unique : (image out : List ℕ) {r s : Result ℕ ImageRefusal} {o p : List ℕ} → Prints image out r o → Prints image out s p → (r ≡ s) × (o ≡ p)
 prints-unique image out f g =
     let h = fills-unique f.fills g.fills in
     (judged-injective _ _ h.0 (f.names ∙ sym g.names), h.1)
 
 -- ---- A BUFFER OF 2,618 BYTES IS NEVER TOO SHORT: an image that is taken is then printed
 
-judged-done : (r : Judged) {n : ℕ} → judged_as r ≡ done n → r ≡ Records n
-judged-done (Records m) e = cc
-judged-done (Refused s) e = absurd (done-not-refused (sym e))
-judged-done (BadRecord k byte) e = absurd (done-not-refused (sym e))
+judged-done : (r : Result ℕ ImageRefusal) {n : ℕ} → judged_as r ≡ done n → r ≡ Ok n
+judged-done (Ok m) e = cc
+judged-done (Err (Refused s)) e = absurd (done-not-refused (sym e))
+judged-done (Err (BadRecord k byte)) e = absurd (done-not-refused (sym e))
 
 pub prints-enough : (image out : List ℕ) → InOrder (standing image) (count_of image) (order_of image) → length (order_of image) ≡ count_of image
-    → takes_image image ≡ passes → 2618 ≤ length out → {r : Judged} {out' : List ℕ} → Prints image out r out'
-    → (r ≡ Records (length (printed image))) × (out' ≡ front (printed image) out)
+    → takes_image image ≡ passes → 2618 ≤ length out → {r : Result ℕ ImageRefusal} {out' : List ℕ} → Prints image out r out'
+    → (r ≡ Ok (length (printed image))) × (out' ≡ front (printed image) out)
 prints-enough image out good sized taken room p =
     let most = image-printed-most image (taken-short image taken) good sized in
     let h = fills-unique p.fills (filled-whole taken (omega (arith, most, room)) refl) in

@@ -18,8 +18,8 @@ use borrow.Author.Tests.{ltb-true, ltb-false}
 use Rattle.laws.specs.Lists.{All, none, also}
 use Rattle.laws.proofs.Bools.{test}
 use Rattle.laws.proofs.Lists.{all_map, all-at}
-use Rattle.ranking.specs.declared.order.Order.{Order}
-use Rattle.ranking.specs.declared.order.Order.TheVariants.{Before}
+use Rattle.std.specs.declared.cmp.Ordering.{Ordering}
+use Rattle.std.specs.declared.cmp.Ordering.TheVariants.{Less}
 use Rattle.labels.specs.Images.{count_of}
 use Rattle.sorting.specs.Sorting.{standing, is_before, Sorted, Member, here, there, InOrder, placed, sorted_by, order_of}
 use Rattle.sorting.specs.Sorting as sorting
@@ -42,21 +42,21 @@ all-member (also p q) (there m) = all-member q m
 
 -- ---- one number put in its place
 
-module _ (stands : ℕ → ℕ → Order) (k : ℕ) where
+module _ (stands : ℕ → ℕ → Ordering) (k : ℕ) where
   pub placed-none : placed stands k [] ≡ k ∷ []
   unfolding placed
   placed-none = refl
 
-  pub placed-after : (j : ℕ) (x : List ℕ) → stands j k ≡ Before → placed stands k (j ∷ x) ≡ j ∷ placed stands k x
+  pub placed-after : (j : ℕ) (x : List ℕ) → stands j k ≡ Less → placed stands k (j ∷ x) ≡ j ∷ placed stands k x
   unfolding placed
   placed-after j x e = rw e
 
-  pub placed-here : (j : ℕ) (x : List ℕ) → (stands j k ≡ Before → ⊥) → placed stands k (j ∷ x) ≡ k ∷ j ∷ x
+  pub placed-here : (j : ℕ) (x : List ℕ) → (stands j k ≡ Less → ⊥) → placed stands k (j ∷ x) ≡ k ∷ j ∷ x
   unfolding placed
   placed-here j x h = rw (not-before (stands j k) h)
 
   -- by cases
-  either : {G : Type 0} (j : ℕ) → (stands j k ≡ Before → G) → ((stands j k ≡ Before → ⊥) → G) → G
+  either : {G : Type 0} (j : ℕ) → (stands j k ≡ Less → G) → ((stands j k ≡ Less → ⊥) → G) → G
   either j yea nay = test (is_before (stands j k)) (λ e. yea (is-before (stands j k) e)) (λ e. nay (is-not-before (stands j k) e))
 
   pub placed-length : (x : List ℕ) → length (placed stands k x) ≡ suc (length x)
@@ -90,7 +90,7 @@ module _ (stands : ℕ → ℕ → Order) (k : ℕ) where
 
 -- ---- the first n numbers put in their places
 
-module _ (stands : ℕ → ℕ → Order) where
+module _ (stands : ℕ → ℕ → Ordering) where
   pub ordered-next : (n : ℕ) → sorted_by stands (suc n) ≡ placed stands n (sorted_by stands n)
   unfolding sorted_by
   ordered-next n = refl
@@ -130,15 +130,15 @@ module _ (stands : ℕ → ℕ → Order) where
 
 -- ---- sorted lists with the same members are equal
 
-module _ {stands : ℕ → ℕ → Order} (strict : Strict stands) where
-  same_first : {a b : ℕ} {x y : List ℕ} → All (λ j. stands a j ≡ Before) x → All (λ j. stands b j ≡ Before) y → Member a (b ∷ y) → Member b (a ∷ x)
+module _ {stands : ℕ → ℕ → Ordering} (strict : Strict stands) where
+  same_first : {a b : ℕ} {x y : List ℕ} → All (λ j. stands a j ≡ Less) x → All (λ j. stands b j ≡ Less) y → Member a (b ∷ y) → Member b (a ∷ x)
       → a ≡ b
   same_first {a} {b} p q m n =
       member-cases m (λ e. e)
       (λ m'. member-cases n (λ e. sym e) (λ n'. absurd (before-not-back strict a b (all-member p n') (all-member q m'))))
 
   -- a member after the first of one list is one after the first of the other
-  same_rest : {a b k : ℕ} {x y : List ℕ} → a ≡ b → All (λ j. stands a j ≡ Before) x → Member k x → Member k (b ∷ y) → Member k y
+  same_rest : {a b k : ℕ} {x y : List ℕ} → a ≡ b → All (λ j. stands a j ≡ Less) x → Member k x → Member k (b ∷ y) → Member k y
   same_rest {a} e p m n =
       member-cases n (λ q. absurd (before-not-self strict a (rw (q ∙ sym e) at (all-member p m)))) (λ n'. n')
 
@@ -158,7 +158,7 @@ module _ {stands : ℕ → ℕ → Order} (strict : Strict stands) where
       same-sorted f.sorted g.sorted (λ k m. g.all k (all-member f.inside m)) (λ k m. f.all k (all-member g.inside m))
 
   -- what stands earlier in a sorted list stands before what stands later
-  pub sorted-at : {x : List ℕ} → Sorted stands x → (i j : ℕ) → i < j → j < length x → stands (get_or x i 0) (get_or x j 0) ≡ Before
+  pub sorted-at : {x : List ℕ} → Sorted stands x → (i j : ℕ) → i < j → j < length x → stands (get_or x i 0) (get_or x j 0) ≡ Less
   sorted-at sorting.none i j h q = absurd (omega arith)
   sorted-at (sorting.also p s) i zero h q = absurd (omega arith)
   sorted-at (sorting.also p s) zero (suc j) h q = all-at 0 p j (omega arith)

@@ -10,44 +10,44 @@ use mathlib.Core.Bool.{true, false, false≢true}
 use mathlib.Core.List.{List}
 use Prim.Native.Nat.{ℕ}
 use native.Mathlib.Omega.{arith}
+use Rattle.std.specs.Prelude.{Result, Ok, Err}
 use Rattle.answers.specs.Checks.{passes}
 use Rattle.answers.specs.declared.refusal.Refusal.{Refusal}
+use Rattle.answers.proofs.Answers.{answered-injective}
 use Rattle.answers.proofs.Checks.{units-taken}
 use Rattle.ranking.specs.Ranking.{by_value, swapped, then_by, rank_bytes, takes_two_bytes, RanksBytes}
-use Rattle.ranking.specs.declared.order.Order.{Order}
-use Rattle.ranking.specs.declared.order.Order.TheVariants.{Before, Equal, After}
-use Rattle.ranking.specs.declared.order.Ranked.{Ranked}
-use Rattle.ranking.specs.declared.order.Ranked.TheVariants.{Stands, Refused}
+use Rattle.std.specs.declared.cmp.Ordering.{Ordering}
+use Rattle.std.specs.declared.cmp.Ordering.TheVariants.{Less, Equal, Greater}
 use Rattle.ranking.proofs.Orders.{before-not-equal, before-not-after, equal-value, by-value-self, by-value-swapped, swapped-then, then-equal-next, Chain, chain-value, chain-then, chain-before}
 use Rattle.ranking.proofs.Ranks.{bytes-self, bytes-swapped, bytes-chain}
-use Rattle.ranking.proofs.Calls.{ranked-injective, two-bytes-taken}
+use Rattle.ranking.proofs.Calls.{two-bytes-taken}
 use Rattle.labels.specs.Images.{label_at, berth_at}
 use Rattle.labels.proofs.Lookups.{label-short}
 use Rattle.sorting.specs.Sorting.{standing, is_before}
 
 -- ---- a strict order that tells every two apart
 
-pub record Strict (stands : ℕ → ℕ → Order) : Type 0 where
+pub record Strict (stands : ℕ → ℕ → Ordering) : Type 0 where
   pub self : (i : ℕ) → stands i i ≡ Equal
   pub equal : (i j : ℕ) → stands i j ≡ Equal → i ≡ j
   pub turned : (i j : ℕ) → stands j i ≡ swapped (stands i j)
-  pub before : (i j k : ℕ) → stands i j ≡ Before → stands j k ≡ Before → stands i k ≡ Before
+  pub before : (i j k : ℕ) → stands i j ≡ Less → stands j k ≡ Less → stands i k ≡ Less
 
-module _ {stands : ℕ → ℕ → Order} (strict : Strict stands) where
-  pub before-not-self : (i : ℕ) → stands i i ≡ Before → ⊥
+module _ {stands : ℕ → ℕ → Ordering} (strict : Strict stands) where
+  pub before-not-self : (i : ℕ) → stands i i ≡ Less → ⊥
   before-not-self i e = before-not-equal (sym e ∙ strict.self i)
 
-  pub before-not-back : (i j : ℕ) → stands i j ≡ Before → stands j i ≡ Before → ⊥
+  pub before-not-back : (i j : ℕ) → stands i j ≡ Less → stands j i ≡ Less → ⊥
   before-not-back i j e q = before-not-self i (strict.before i j i e q)
 
   -- of two that differ one stands before the other
-  pub else-before : (i j : ℕ) → (stands i j ≡ Before → ⊥) → (i ≡ j → ⊥) → stands j i ≡ Before
+  pub else-before : (i j : ℕ) → (stands i j ≡ Less → ⊥) → (i ≡ j → ⊥) → stands j i ≡ Less
   else-before i j h differ = by (stands i j) refl
     where
-      by : (o : Order) → stands i j ≡ o → stands j i ≡ Before
-      by Before e = absurd (h e)
+      by : (o : Ordering) → stands i j ≡ o → stands j i ≡ Less
+      by Less e = absurd (h e)
       by Equal e = absurd (differ (strict.equal i j e))
-      by After e = strict.turned i j ∙ ap swapped e
+      by Greater e = strict.turned i j ∙ ap swapped e
 
 -- ---- THE ORDER OF RECORDS
 
@@ -84,7 +84,7 @@ module _ (image : List ℕ) where
       (chain-value (berth_at image i) (berth_at image j) (berth_at image k)) (chain-value i j k))
 
   -- what stands before another, which stands before a third, stands before the third
-  pub standing-before : (i j k : ℕ) → standing image i j ≡ Before → standing image j k ≡ Before → standing image i k ≡ Before
+  pub standing-before : (i j k : ℕ) → standing image i j ≡ Less → standing image j k ≡ Less → standing image i k ≡ Less
   standing-before i j k e q = chain-before (standing image i j) (standing image j k) (standing image i k) (standing-chain i j k) e q
 
   pub standing-strict : Strict (standing image)
@@ -92,37 +92,37 @@ module _ (image : List ℕ) where
 
 -- ---- its test
 
-pub is-before : (o : Order) → is_before o ≡ true → o ≡ Before
-is-before Before e = refl
+pub is-before : (o : Ordering) → is_before o ≡ true → o ≡ Less
+is-before Less e = refl
 is-before Equal e = absurd (false≢true e)
-is-before After e = absurd (false≢true e)
+is-before Greater e = absurd (false≢true e)
 
-pub is-not-before : (o : Order) → is_before o ≡ false → o ≡ Before → ⊥
-is-not-before Before e q = false≢true (sym e)
+pub is-not-before : (o : Ordering) → is_before o ≡ false → o ≡ Less → ⊥
+is-not-before Less e q = false≢true (sym e)
 is-not-before Equal e q = before-not-equal (sym q)
-is-not-before After e q = before-not-after (sym q)
+is-not-before Greater e q = before-not-after (sym q)
 
-pub not-before : (o : Order) → (o ≡ Before → ⊥) → is_before o ≡ false
-not-before Before h = absurd (h refl)
+pub not-before : (o : Ordering) → (o ≡ Less → ⊥) → is_before o ≡ false
+not-before Less h = absurd (h refl)
 not-before Equal h = refl
-not-before After h = refl
+not-before Greater h = refl
 
 -- ---- ranking refuses no label: r is what it answered of two labels, and o where the first stands
 
-module _ (image : List ℕ) (i j : ℕ) {first second : List ℕ} (one : first ≡ label_at image i) (two : second ≡ label_at image j) {r : Ranked}
+module _ (image : List ℕ) (i j : ℕ) {first second : List ℕ} (one : first ≡ label_at image i) (two : second ≡ label_at image j) {r : Result Ordering Refusal}
     (says : RanksBytes first second r) where
   labels-taken : takes_two_bytes first second ≡ passes
   labels-taken =
       two-bytes-taken first second (units-taken first (rw one (omega (arith, label-short image i))))
       (units-taken second (rw two (omega (arith, label-short image j))))
 
-  labels-answer : r ≡ Stands (rank_bytes first second)
-  labels-answer = ranked-injective r (Stands (rank_bytes first second)) (rw labels-taken at says.answers)
+  labels-answer : r ≡ Ok (rank_bytes first second)
+  labels-answer = answered-injective r (Ok (rank_bytes first second)) (rw labels-taken at says.answers)
 
-  pub labels-rank : {o : Order} → r ≡ Stands o → o ≡ rank_bytes (label_at image i) (label_at image j)
+  pub labels-rank : {o : Ordering} → r ≡ Ok o → o ≡ rank_bytes (label_at image i) (label_at image j)
   labels-rank {o} e =
       let same : o ≡ rank_bytes first second = cc labels-answer in
       rw (one, two) at same
 
-  pub labels-refused : {refusal : Refusal} → r ≡ Refused refusal → ⊥
+  pub labels-refused : {refusal : Refusal} → r ≡ Err refusal → ⊥
   labels-refused e = let z : ◌≡◌ {A = ℕ} 0 1 = cc labels-answer in omega arith

@@ -4,10 +4,10 @@ ghost use Rattle.ranking.specs.Ranking.{rank_bytes};
 ghost use Rattle.labels.specs.Images.{label_at};
 ghost use Rattle.sorting.specs.Sorting.{standing, is_before};
 
-use ranking::{Order, Ranked};
+use std::cmp::Ordering;
 
 // Compares two records by their labels.
-fn by_label(image: &[u8], first: usize, second: usize) -> Order
+fn by_label(image: &[u8], first: usize, second: usize) -> Ordering
     ensures { result ≡ rank_bytes (label_at image.now first) (label_at image.now second) }
 {
     let ranked = ranking::rank_bytes(
@@ -15,14 +15,14 @@ fn by_label(image: &[u8], first: usize, second: usize) -> Order
         labels::label_at(image, second),
     );
     match ranked {
-        Ranked::Stands(order) => order,
+        Ok(order) => order,
         // No label is over the limit.
-        Ranked::Refused(_) => Order::Equal,
+        Err(_) => Ordering::Equal,
     }
 }
 
 // Compares two records by their labels, then by berth, then by number.
-fn compared(image: &[u8], first: u32, second: u32) -> Order
+fn compared(image: &[u8], first: u32, second: u32) -> Ordering
     ensures { result ≡ standing image.now first second }
 {
     let label = by_label(image, first as usize, second as usize);
@@ -38,10 +38,5 @@ fn compared(image: &[u8], first: u32, second: u32) -> Order
 pub(crate) fn comes_before(image: &[u8], first: u32, second: u32) -> bool
     ensures { result ≡ is_before (standing image.now first second) }
 {
-    let order = compared(image, first, second);
-    match order {
-        Order::Before => true,
-        Order::Equal => false,
-        Order::After => false,
-    }
+    matches!(compared(image, first, second), Ordering::Less)
 }

@@ -50,6 +50,7 @@ pub(crate) fn put_decimal(number: u32, out: &mut [u8], at: usize) -> usize
     let end = at + decimal_size(number);
     let mut rest = number;
     let mut next = end - 1;
+    // A `for` over the places from the last on would say no more plainly that the number ends it.
     while 10 <= rest {
         out[next] = digit(rest);
         rest /= 10;

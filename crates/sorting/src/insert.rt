@@ -8,10 +8,6 @@ pub(crate) fn insert(numbers: &mut [u32], count: usize, at: usize, number: u32)
     requires count_in_bounds { count < length numbers.old }
     ensures { Inserted numbers.old count at number numbers.new }
 {
-    let mut to = count;
-    while at < to {
-        numbers[to] = numbers[to - 1];
-        to -= 1;
-    }
+    numbers.copy_within(at..count, at + 1);
     numbers[at] = number;
 }

@@ -1,5 +1,5 @@
 -- Laws of writing UTF-16: a code point's units by its bounds (`units-one`, `units-two`), how many
--- they are (`long-one`, `long-two`, `units-least`, `units-most`), those of U+FFFD (`mark-units`),
+-- they are (`long-one`, `long-two`, `units-least`), those of U+FFFD (`mark-units`),
 -- and how many a text's are (`write-least`, `write-most`).
 use mathlib.Core.Path.{◌≡◌, sym, ap}
 use mathlib.Core.List.{List, [], ◌∷◌}
@@ -11,6 +11,7 @@ use borrow.Author.Tests.{lt-ltb, le-ltb, ltb-true, ltb-false}
 use Rattle.laws.proofs.Bools.{test}
 use Rattle.laws.proofs.Lists.{length-each-least, length-each-most}
 use Rattle.utf16.specs.Utf16.{units16, write_units}
+use Rattle.utf16.specs.Most.{units-most}
 
 module _ (c : ℕ) where
   pub units-one : c < 0x10000 → units16 c ≡ c ∷ []
@@ -35,9 +36,6 @@ module _ (c : ℕ) where
 
   pub units-least : 1 ≤ length (units16 c)
   units-least = by_size (λ h. omega (arith, long-one h)) (λ h. omega (arith, long-two h))
-
-  pub units-most : length (units16 c) ≤ 2
-  units-most = by_size (λ h. omega (arith, long-one h)) (λ h. omega (arith, long-two h))
 
 -- the unit of U+FFFD
 pub mark-units : units16 0xFFFD ≡ 0xFFFD ∷ []

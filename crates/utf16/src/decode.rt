@@ -1,7 +1,7 @@
 // Decoding: what begins at an index of a text of units, by D91.
 ghost use Rattle.std.specs.Prelude.{◌≡◌, ◌<◌, get_or, drop};
 ghost use Rattle.encodings.specs.Forms.{pieces_in};
-ghost use Rattle.encodings.specs.Reading.{taken_in, ill_of};
+ghost use Rattle.encodings.specs.Reading.{taken_in};
 ghost use Rattle.utf16.specs.Utf16.{form16};
 ghost use Rattle.utf16.specs.Inner.{BeginsPair};
 
@@ -19,17 +19,6 @@ pub fn unit_at(text: &[u16], at: usize) -> u32
     0
 }
 
-// An unpaired surrogate.
-fn unpaired() -> Taken
-    ensures { result ≡ ill_of 1 }
-{
-    Taken {
-        code: 0xFFFD,
-        size: 1,
-        ill: 1,
-    }
-}
-
 // The high surrogate at an index: a pair, or unpaired.
 fn read_pair(text: &[u16], at: usize, first: u32) -> Taken
     requires { BeginsPair text.now at first }
@@ -37,16 +26,12 @@ fn read_pair(text: &[u16], at: usize, first: u32) -> Taken
 {
     let second = unit_at(text, at + 1);
     if second < 0xDC00 {
-        return unpaired();
+        return Taken::ill(1);
     }
     if second > 0xDFFF {
-        return unpaired();
+        return Taken::ill(1);
     }
-    Taken {
-        code: 0x10000 + (first - 0xD800) * 0x400 + (second - 0xDC00),
-        size: 2,
-        ill: 0,
-    }
+    Taken::good(0x10000 + (first - 0xD800) * 0x400 + (second - 0xDC00), 2)
 }
 
 // The code point that begins at an index, or one FFFD for the unpaired surrogate there.
@@ -54,20 +39,12 @@ pub fn read_at(text: &[u16], at: usize) -> Taken
     ensures { result ≡ taken_in form16 (pieces_in form16 (drop at text.now)) }
 {
     if text.len() <= at {
-        return Taken {
-            code: 0,
-            size: 0,
-            ill: 0,
-        };
+        return Taken::good(0, 0);
     }
     let first = text[at] as u32;
     match first {
         0xD800..=0xDBFF => read_pair(text, at, first),
-        0xDC00..=0xDFFF => unpaired(),
-        _ => Taken {
-            code: first,
-            size: 1,
-            ill: 0,
-        },
+        0xDC00..=0xDFFF => Taken::ill(1),
+        _ => Taken::good(first, 1),
     }
 }

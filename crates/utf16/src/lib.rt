@@ -4,8 +4,10 @@
 
 mod decode;
 mod encode;
+mod form;
 mod text;
 
 pub use decode::{read_at, unit_at};
 pub use encode::{put_at, size_of};
+pub use form::Utf16;
 pub use text::{read_units, write_units};

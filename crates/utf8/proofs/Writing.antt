@@ -1,7 +1,7 @@
 -- Laws of writing UTF-8: a code point's bytes in their four cases, and how many they are.
 --
 -- It has: `bytes_of` by the bounds of the code point (`bytes_one` .. `bytes-four`); its length
--- (`long-one` .. `long-four`, `bytes-least`, `bytes_most`), by a view of the four cases (`Width`);
+-- (`long-one` .. `long-four`, `bytes-least`), by a view of the four cases (`Width`);
 -- those of U+FFFD (`mark-bytes`); and a text's bytes (`write-most`, `write-least`).
 use mathlib.Core.Path.{◌≡◌, refl, sym, ap}
 use mathlib.Core.Bool.{Bool, true, false}
@@ -13,6 +13,7 @@ use lib.Dec.{ltb}
 use borrow.Author.Tests.{lt-ltb, le-ltb, ltb-true, ltb-false}
 use Rattle.laws.proofs.Lists.{length-each-least, length-each-most}
 use Rattle.utf8.specs.Utf8.{bytes_of, write_text}
+use Rattle.utf8.specs.Most.{bytes_most}
 
 -- ---- a code point's bytes, by its bounds
 
@@ -72,15 +73,6 @@ pub bytes-least : (c : ℕ) → 1 ≤ length (bytes_of c)
 bytes-least c = by (width c)
   where
     by : Width c → 1 ≤ length (bytes_of c)
-    by (one h) = rw (bytes_one c h) (omega arith)
-    by (two h k) = rw (bytes-two c h k) (omega arith)
-    by (three h k) = rw (bytes-three c h k) (omega arith)
-    by (four h) = rw (bytes-four c h) (omega arith)
-
-pub bytes_most : (c : ℕ) → length (bytes_of c) ≤ 4
-bytes_most c = by (width c)
-  where
-    by : Width c → length (bytes_of c) ≤ 4
     by (one h) = rw (bytes_one c h) (omega arith)
     by (two h k) = rw (bytes-two c h k) (omega arith)
     by (three h k) = rw (bytes-three c h k) (omega arith)

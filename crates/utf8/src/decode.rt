@@ -5,7 +5,6 @@ ghost use Rattle.std.proofs.Math.Option.{some};
 ghost use Rattle.laws.specs.Ranges.{within};
 ghost use Rattle.encodings.specs.Pieces.{pieces};
 ghost use Rattle.encodings.specs.Rows.{◌to◌};
-ghost use Rattle.encodings.specs.Reading.{good_of, ill_of};
 ghost use Rattle.utf8.specs.Table37.{continuation, kind_of};
 ghost use Rattle.utf8.specs.Utf8.{first_ill};
 ghost use Rattle.utf8.specs.Reading.{taken_from};
@@ -27,10 +26,7 @@ pub fn byte_at(text: &[u8], at: usize) -> u8
 fn is_within(low: u8, high: u8, byte: u8) -> bool
     ensures { result ≡ within low high byte }
 {
-    if byte < low {
-        return false;
-    }
-    byte <= high
+    (low..=high).contains(&byte)
 }
 
 // Is it a continuation byte?
@@ -40,22 +36,6 @@ pub fn is_continuation(byte: u8) -> bool
     is_within(0x80, 0xBF, byte)
 }
 
-fn ill(size: usize) -> Taken
-    ensures { result ≡ ill_of size }
-{
-    Taken {
-        code: 0xFFFD,
-        size,
-        ill: 1,
-    }
-}
-
-fn good(code: u32, size: usize) -> Taken
-    ensures { result ≡ good_of code size }
-{
-    Taken { code, size, ill: 0 }
-}
-
 // A row of two bytes.
 fn read_two(text: &[u8], at: usize, first: u32) -> Taken
     requires { Begins text.now at first (some (continuation ∷ [])) 0xC2 0xDF }
@@ -63,9 +43,9 @@ fn read_two(text: &[u8], at: usize, first: u32) -> Taken
 {
     let second = byte_at(text, at + 1);
     if !is_continuation(second) {
-        return ill(1);
+        return Taken::ill(1);
     }
-    good(first % 32 * 64 + second as u32 % 64, 2)
+    Taken::good(first % 32 * 64 + second as u32 % 64, 2)
 }
 
 // A row of three bytes, of which the second lies between `low` and `high`.
@@ -75,13 +55,13 @@ fn read_three(text: &[u8], at: usize, first: u32, low: u8, high: u8) -> Taken
 {
     let second = byte_at(text, at + 1);
     if !is_within(low, high, second) {
-        return ill(1);
+        return Taken::ill(1);
     }
     let third = byte_at(text, at + 2);
     if !is_continuation(third) {
-        return ill(2);
+        return Taken::ill(2);
     }
-    good(
+    Taken::good(
         first % 16 * 4096 + second as u32 % 64 * 64 + third as u32 % 64,
         3,
     )
@@ -94,17 +74,17 @@ fn read_four(text: &[u8], at: usize, first: u32, low: u8, high: u8) -> Taken
 {
     let second = byte_at(text, at + 1);
     if !is_within(low, high, second) {
-        return ill(1);
+        return Taken::ill(1);
     }
     let third = byte_at(text, at + 2);
     if !is_continuation(third) {
-        return ill(2);
+        return Taken::ill(2);
     }
     let fourth = byte_at(text, at + 3);
     if !is_continuation(fourth) {
-        return ill(3);
+        return Taken::ill(3);
     }
-    good(
+    Taken::good(
         first % 8 * 262144
             + second as u32 % 64 * 4096
             + third as u32 % 64 * 64
@@ -119,19 +99,11 @@ pub fn read_at(text: &[u8], at: usize) -> Taken
     ensures { result ≡ taken_from (pieces kind_of (drop at text.now)) }
 {
     if text.len() <= at {
-        return Taken {
-            code: 0,
-            size: 0,
-            ill: 0,
-        };
+        return Taken::good(0, 0);
     }
     let first = text[at] as u32;
     match first {
-        0..=0x7F => Taken {
-            code: first,
-            size: 1,
-            ill: 0,
-        },
+        0..=0x7F => Taken::good(first, 1),
         0xC2..=0xDF => read_two(text, at, first),
         0xE0 => read_three(text, at, first, 0xA0, 0xBF),
         0xE1..=0xEC => read_three(text, at, first, 0x80, 0xBF),
@@ -140,11 +112,7 @@ pub fn read_at(text: &[u8], at: usize) -> Taken
         0xF0 => read_four(text, at, first, 0x90, 0xBF),
         0xF1..=0xF3 => read_four(text, at, first, 0x80, 0xBF),
         0xF4 => read_four(text, at, first, 0x80, 0x8F),
-        _ => Taken {
-            code: 0xFFFD,
-            size: 1,
-            ill: 1,
-        },
+        _ => Taken::ill(1),
     }
 }
 
@@ -153,6 +121,7 @@ pub fn first_ill(text: &[u8]) -> usize
     ensures { result ≡ first_ill text.now }
 {
     let mut at = 0;
+    // A `while`, since each step is as long as what was read.
     while at < text.len() {
         let taken = read_at(text, at);
         if taken.ill != 0 {

@@ -1,132 +1,23 @@
 // Whole texts: bytes read as code points, and code points written as bytes, into a lent buffer
 // (document 01, 'Bytes').
-ghost use Rattle.std.specs.Prelude.{◌≡◌, ◌≤◌, length};
-ghost use Rattle.answers.specs.Checks.{lacking, passes, takes_text};
 ghost use Rattle.utf8.specs.Utf8.{read_text, write_text};
-ghost use Rattle.utf8.specs.Reading.{ReadFronts, Reads};
-ghost use Rattle.laws.specs.Writing.{Fronts};
+ghost use Rattle.utf8.specs.Reading.{Reads};
 ghost use Rattle.answers.specs.Answers.{Makes};
 
-use answers::{Checked, Filled, Refusal};
-use encodings::{Counted, Read};
-
-// How many code points a text reads as.
-fn read_count(text: &[u8]) -> usize
-    requires { length text.now ≤ 16384 }
-    ensures { result ≡ length (read_text text.now) }
-{
-    let mut count: usize = 0;
-    let mut at = 0;
-    while at < text.len() {
-        let taken = crate::decode::read_at(text, at);
-        at += taken.size;
-        count += 1;
-    }
-    count
-}
-
-// 0 if `room` is enough, else the length needed. One for each byte is always enough, and then
-// nothing is counted.
-fn read_lacking(text: &[u8], room: usize) -> usize
-    requires { length text.now ≤ 16384 }
-    ensures { result ≡ lacking room (length (read_text text.now)) }
-{
-    if text.len() <= room {
-        return 0;
-    }
-    answers::lacking(room, read_count(text))
-}
-
-// Writes what a text reads as to the front of `out`, which has room for it.
-fn read_into(text: &[u8], out: &mut [u32]) -> Counted
-    requires text_len_bound { length text.now ≤ 16384 }
-    requires text_in_bounds { length (read_text text.now) ≤ length out.old }
-    ensures { ReadFronts read_text text.now out.old result out.new }
-{
-    let mut length: usize = 0;
-    let mut ills: usize = 0;
-    let mut read = 0;
-    while read < text.len() {
-        let taken = crate::decode::read_at(text, read);
-        out[length] = taken.code;
-        length += 1;
-        ills += taken.ill;
-        read += taken.size;
-    }
-    Counted { length, ills }
-}
+use crate::form::Utf8;
+use answers::Refusal;
+use encodings::Counted;
 
 // Reads a text of bytes into a lent buffer: refusals 1 and 3.
-pub fn read_text(text: &[u8], out: &mut [u32]) -> Read
+pub fn read_text(text: &[u8], out: &mut [u32]) -> Result<Counted, Refusal>
     ensures { Reads read_text text.now out.old result out.new }
 {
-    let checked = answers::check_bytes(text);
-    match checked {
-        Checked::Refused(refusal) => Read::Refused(refusal),
-        Checked::Passed => {
-            let needed = read_lacking(text, out.len());
-            if needed != 0 {
-                return Read::Refused(Refusal::NoRoom(needed));
-            }
-            Read::Done(read_into(text, out))
-        }
-    }
-}
-
-// How many bytes a text takes.
-fn write_count(text: &[u32]) -> usize
-    requires { length text.now ≤ 16384 }
-    ensures { result ≡ length (write_text text.now) }
-{
-    let mut count: usize = 0;
-    let mut i = 0;
-    while i < text.len() {
-        count += crate::encode::size_of(text[i]);
-        i += 1;
-    }
-    count
-}
-
-// 0 if `room` is enough, else the length needed. Four for each code point are always enough, and
-// then nothing is counted.
-fn write_lacking(text: &[u32], room: usize) -> usize
-    requires { length text.now ≤ 16384 }
-    ensures { result ≡ lacking room (length (write_text text.now)) }
-{
-    if 4 * text.len() <= room {
-        return 0;
-    }
-    answers::lacking(room, write_count(text))
-}
-
-// Writes a text's bytes to the front of `out`, which has room for them.
-fn write_into(text: &[u32], out: &mut [u8]) -> usize
-    requires text_value { takes_text text.now ≡ passes }
-    requires text_in_bounds { length (write_text text.now) ≤ length out.old }
-    ensures { Fronts (write_text text.now) out.old result out.new }
-{
-    let mut at: usize = 0;
-    let mut next = 0;
-    while next < text.len() {
-        at = crate::encode::put_at(text[next], out, at);
-        next += 1;
-    }
-    at
+    encodings::read_text::<Utf8>(text, out)
 }
 
 // Writes a text as UTF-8 into a lent buffer: refusals 1, 2 and 3.
-pub fn write_text(text: &[u32], out: &mut [u8]) -> Filled
+pub fn write_text(text: &[u32], out: &mut [u8]) -> Result<usize, Refusal>
     ensures { Makes write_text text.now out.old result out.new }
 {
-    let checked = answers::check_text(text);
-    match checked {
-        Checked::Refused(refusal) => Filled::Refused(refusal),
-        Checked::Passed => {
-            let needed = write_lacking(text, out.len());
-            if needed != 0 {
-                return Filled::Refused(Refusal::NoRoom(needed));
-            }
-            Filled::Done(write_into(text, out))
-        }
-    }
+    encodings::write_text::<Utf8>(text, out)
 }

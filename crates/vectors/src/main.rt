@@ -3,8 +3,6 @@
 // from the published files and tests/cases.txt.
 #![tactic(auto)]
 
-ghost use Rattle.std.specs.Prelude.{IfOk, ◌≤◌, length};
-
 mod operand;
 mod put;
 mod single;
@@ -12,7 +10,7 @@ mod texts;
 mod words;
 
 use std::io;
-use std::io::{Read, Stdin, Stdout};
+use std::io::Stdout;
 
 // What is read at once.
 const BLOCK: usize = 65536;
@@ -20,72 +18,58 @@ const BLOCK: usize = 65536;
 // A line that fills its buffer is too long.
 const LINE: usize = 4096;
 
-// Reads until the buffer is full or the input ends, and says how many bytes came in.
-fn read_full(stdin: &mut Stdin, buffer: &mut [u8]) -> io::Result<usize>
-    ensures { IfOk result (λ size. size ≤ length buffer.new) }
-{
-    let mut size = 0;
-    while size < buffer.len() {
-        let more = stdin.read(&mut buffer[size..])?;
-        if more == 0 {
-            return Ok(size);
+// The line that comes in, as far as it is held.
+#[derive(Drop)]
+struct Line {
+    bytes: [u8; LINE],
+    held: usize,
+}
+
+impl Line {
+    // Holds one byte more, if there is room for it.
+    fn hold(&mut self, byte: u8) {
+        if self.held < LINE {
+            self.bytes[self.held] = byte;
+            self.held += 1;
         }
-        size += more;
     }
-    Ok(size)
-}
 
-// Answers the line that is held.
-fn answer_line(stdout: &mut Stdout, line: &[u8], held: usize) -> io::Result<()> {
-    if line.len() <= held {
-        return put::no_vector(stdout);
+    // Answers the line that is held.
+    fn answer(&self, stdout: &mut Stdout) -> io::Result<()> {
+        if LINE <= self.held {
+            return put::no_vector(stdout);
+        }
+        words::answer(stdout, &self.bytes[..self.held])
     }
-    words::answer(stdout, &line[..held])
-}
 
-// Holds a byte after those that are held, and says how many are held then: as many as the buffer
-// has if a line is too long for it.
-fn hold(byte: u8, line: &mut [u8], held: usize) -> usize {
-    if held < line.len() {
-        line[held] = byte;
-        return held + 1;
+    // Takes the next byte of the input: a line feed has the line answered, any other byte is held.
+    fn take(&mut self, byte: u8, stdout: &mut Stdout) -> io::Result<()> {
+        if byte != b'\n' {
+            self.hold(byte);
+            return Ok(());
+        }
+        self.answer(stdout)?;
+        self.held = 0;
+        put::byte(stdout, b'\n')
     }
-    line.len()
-}
 
-// Takes the next byte of the input: a line feed has the line answered, any other byte is held. Says
-// how many are held then.
-fn take(stdout: &mut Stdout, byte: u8, line: &mut [u8], held: usize) -> io::Result<usize> {
-    if byte == b'\n' {
-        answer_line(stdout, line, held)?;
-        put::byte(stdout, b'\n')?;
-        return Ok(0);
+    // What comes after the last line feed is no line: it is answered as such, so that a cut input
+    // shows.
+    fn answer_rest(&self, stdout: &mut Stdout) -> io::Result<()> {
+        if self.held == 0 {
+            return Ok(());
+        }
+        put::no_vector(stdout)?;
+        put::byte(stdout, b'\n')
     }
-    Ok(hold(byte, line, held))
 }
 
 // Answers the lines that end in a block, and holds what comes after the last of them.
-fn take_block(
-    stdout: &mut Stdout,
-    block: &[u8],
-    line: &mut [u8],
-    before: usize,
-) -> io::Result<usize> {
-    let mut held = before;
+fn take_block(stdout: &mut Stdout, block: &[u8], line: &mut Line) -> io::Result<()> {
     for byte in block {
-        held = take(stdout, *byte, line, held)?;
+        line.take(*byte, stdout)?;
     }
-    Ok(held)
-}
-
-// What comes after the last line feed is no line: it is answered as such, so that a cut input
-// shows.
-fn answer_rest(stdout: &mut Stdout, held: usize) -> io::Result<()> {
-    if held == 0 {
-        return Ok(());
-    }
-    put::no_vector(stdout)?;
-    put::byte(stdout, b'\n')
+    Ok(())
 }
 
 // A proved loop has to end, and nothing says that the input does: no run uses up the turns of this
@@ -94,14 +78,16 @@ fn main(rt: HostRuntime) -> io::Result<()> {
     let mut stdin = rt.stdin();
     let mut stdout = rt.stdout();
     let mut block = [0u8; BLOCK];
-    let mut line = [0u8; LINE];
-    let mut held = 0;
+    let mut line = Line {
+        bytes: [0; LINE],
+        held: 0,
+    };
     for _ in 0..u64::MAX {
-        let size = read_full(&mut stdin, &mut block)?;
+        let size = streams::read_full(&mut stdin, &mut block)?;
         if size == 0 {
-            return answer_rest(&mut stdout, held);
+            return line.answer_rest(&mut stdout);
         }
-        held = take_block(&mut stdout, &block[..size], &mut line, held)?;
+        take_block(&mut stdout, &block[..size], &mut line)?;
     }
     Ok(())
 }

@@ -1,10 +1,7 @@
 // The words with one operand: step and name take a code, read a name, utf8 bytes. Each writes its
 // answer.
 use crate::{operand, put};
-use answers::Filled;
-use encodings::Read;
-use letters::{Parts, Stepped};
-use names::Named;
+use letters::Parts;
 use std::io;
 use std::io::Stdout;
 
@@ -26,49 +23,42 @@ fn put_parts(stdout: &mut Stdout, parts: Parts) -> io::Result<()> {
 }
 
 pub(crate) fn step(stdout: &mut Stdout, operand: &[u8]) -> io::Result<()> {
-    let code = operand::code(operand);
-    if code == operand::NO_CODE {
+    let Some(code) = operand::code(operand) else {
         return put::no_vector(stdout);
-    }
-    let stepped = letters::one_step(code);
-    match stepped {
-        Stepped::Into(parts) => put_parts(stdout, parts),
-        Stepped::Refused(refusal) => put::refusal(stdout, refusal),
+    };
+    match letters::one_step(code) {
+        Ok(parts) => put_parts(stdout, parts),
+        Err(refusal) => put::refusal(stdout, refusal),
     }
 }
 
 pub(crate) fn name(stdout: &mut Stdout, operand: &[u8]) -> io::Result<()> {
-    let code = operand::code(operand);
-    if code == operand::NO_CODE {
+    let Some(code) = operand::code(operand) else {
         return put::no_vector(stdout);
-    }
+    };
     let mut bytes = [0u8; NAME];
-    let filled = names::name(code, &mut bytes);
-    match filled {
-        Filled::Done(length) => put::front(stdout, &bytes, length),
-        Filled::Refused(refusal) => put::refusal(stdout, refusal),
+    match names::name(code, &mut bytes) {
+        Ok(length) => put::front(stdout, &bytes, length),
+        Err(refusal) => put::refusal(stdout, refusal),
     }
 }
 
 // Any bytes are a name to be read, none too.
 pub(crate) fn read(stdout: &mut Stdout, name: &[u8]) -> io::Result<()> {
-    let named = names::read_name(name);
-    match named {
-        Named::Syllable(code) => put::code(stdout, code),
-        Named::Refused(refusal) => put::refusal(stdout, refusal),
+    match names::read_name(name) {
+        Ok(code) => put::code(stdout, code),
+        Err(refusal) => put::refusal(stdout, refusal),
     }
 }
 
 pub(crate) fn utf8(stdout: &mut Stdout, operand: &[u8]) -> io::Result<()> {
-    let mut bytes = [0u8; BYTES];
-    let count = operand::bytes(operand, &mut bytes);
-    if count == 0 {
+    let mut room = [0u8; BYTES];
+    let Some(bytes) = operand::bytes(operand, &mut room) else {
         return put::no_vector(stdout);
-    }
+    };
     let mut made = [0u32; BYTES];
-    let read = utf8::read_text(&bytes[..count], &mut made);
-    match read {
-        Read::Done(counted) => put::codes(stdout, &made, counted.length),
-        Read::Refused(refusal) => put::refusal(stdout, refusal),
+    match utf8::read_text(bytes, &mut made) {
+        Ok(counted) => put::codes(stdout, &made, counted.length),
+        Err(refusal) => put::refusal(stdout, refusal),
     }
 }

@@ -1,7 +1,7 @@
 // The words that make a text of code points of a text of code points: join, parts, simple, gather,
 // groups. Each field of the line is a text, and is answered in a field.
 use crate::{operand, put};
-use answers::Filled;
+use answers::Refusal;
 use std::io;
 use std::io::Stdout;
 
@@ -21,7 +21,7 @@ pub(crate) enum Text {
     Groups,
 }
 
-fn make(call: Text, text: &[u32], made: &mut [u32]) -> Filled {
+fn make(call: Text, text: &[u32], made: &mut [u32]) -> Result<usize, Refusal> {
     match call {
         Text::Join => joining::join(text, made),
         Text::Parts => letters::full_parts(text, made),
@@ -33,16 +33,14 @@ fn make(call: Text, text: &[u32], made: &mut [u32]) -> Filled {
 
 // Answers one field. One that has too many codes shows in its place.
 fn answer_field(stdout: &mut Stdout, call: Text, field: &[u8]) -> io::Result<()> {
-    let mut codes = [0u32; CODES];
-    let count = operand::codes(field, &mut codes);
-    if count == 0 {
+    let mut room = [0u32; CODES];
+    let Some(text) = operand::codes(field, &mut room) else {
         return put::no_vector(stdout);
-    }
+    };
     let mut made = [0u32; MADE];
-    let filled = make(call, &codes[..count], &mut made);
-    match filled {
-        Filled::Done(length) => put::codes(stdout, &made, length),
-        Filled::Refused(refusal) => put::refusal(stdout, refusal),
+    match make(call, text, &mut made) {
+        Ok(length) => put::codes(stdout, &made, length),
+        Err(refusal) => put::refusal(stdout, refusal),
     }
 }
 
@@ -52,16 +50,11 @@ pub(crate) fn each(stdout: &mut Stdout, call: Text, operands: &[u8]) -> io::Resu
     if !operand::are_texts(operands) {
         return put::no_vector(stdout);
     }
-    let mut from = 0;
-    while from <= operands.len() {
-        let rest = &operands[from..];
-        let size = operand::find(rest, b';');
-        answer_field(stdout, call, &rest[..size])?;
-        if rest.len() <= size {
-            return Ok(());
+    for (i, field) in operands.split(|byte| *byte == b';').enumerate() {
+        if 0 < i {
+            put::byte(stdout, b';')?;
         }
-        put::byte(stdout, b';')?;
-        from += size + 1;
+        answer_field(stdout, call, field)?;
     }
     Ok(())
 }

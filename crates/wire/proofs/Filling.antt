@@ -18,19 +18,18 @@ module _ {A : Type 0} where
   overwriting-none whole out e = record { same = refl; size = e; filling = filling-none whole out }
 
   -- the element of `whole` at i is stored
-  pub overwriting-next : {whole out₀ out : List A} {i : ℕ} {x : A} (d : A) → Overwriting whole out₀ out i → i < length out → (i < length out₀ → x ≡ get_or whole i d)
+  pub overwriting-next : {whole out₀ out : List A} {i : ℕ} {x : A} (d : A) → Overwriting whole out₀ out i → i < length out₀ → x ≡ get_or whole i d
       → Overwriting whole out₀ (set out i x) (i + 1)
   overwriting-next {whole} {out = out} {i = i} {x = x} d f h e =
-      let before : i < length whole = omega (arith, f.same, f.size) in
-      let at = e (omega (arith, f.same)) in
+      let before : i < length whole = omega (arith, f.size) in
       record {
         same = length-set out i x ∙ f.same;
         size = f.size;
-        filling = filling-more (omega (arith, f.size)) f.filling (record { eq = rw at (at-index d whole i before) }) (wrote_one {x = x} refl);
+        filling = filling-more (omega (arith, f.size)) f.filling (record { eq = rw e (at-index d whole i before) }) (wrote_one {x = x} refl);
       }
 
-  pub overwriting-all : {whole out₀ out : List A} {i : ℕ} → Overwriting whole out₀ out i → length out ≤ i → out ≡ whole
+  pub overwriting-all : {whole out₀ out : List A} {i : ℕ} → Overwriting whole out₀ out i → length out₀ ≤ i → out ≡ whole
   overwriting-all {whole} {out₀} {i = i} f h =
-      let left : length whole ≤ i = omega (arith, f.same, f.size) in
+      let left : length whole ≤ i = omega (arith, f.size) in
       let none : length out₀ ≤ length whole = omega (arith, f.size) in
       (filling-all f.filling (drop_of_length-le whole left)).holds ∙ rw (drop_of_length-le out₀ none) (append-nil whole)

@@ -1,17 +1,18 @@
 -- Numbers of 32 bits at an index, read and written. In order: a number that is not there, and one
 -- that is; one number written, and the next of many.
-use mathlib.Core.Path.{◌≡◌, refl, sym, ap}
+use mathlib.Core.Path.{◌≡◌, refl, sym, ◌∙◌}
 use mathlib.Core.List.{List, [], ◌∷◌}
-use Prim.Native.Nat.{ℕ, ◌+◌, ◌*◌, ◌/◌, ◌%◌, ◌≤◌, ◌<◌}
+use Prim.Native.Nat.{ℕ, ◌+◌, ◌-◌, ◌*◌, ◌/◌, ◌%◌, ◌≤◌, ◌<◌}
 use native.Mathlib.Omega.{arith}
-use lib.ListN.{length, get_or, drop, set, length-drop}
+use borrow.Rule.Slice.PartMut.{put_mid}
+use lib.ListN.{length, get_or, drop, length-drop}
 use lib.Seq.{sets}
 use Rattle.laws.specs.Lists.{each}
 use Rattle.laws.specs.Writing.{fitted}
 use Rattle.laws.proofs.Lists.{four-at}
-use Rattle.laws.proofs.Filling.{Piece, Filling, wrote-four, wrote-fitted, wrote-unfitted}
-use Rattle.wire.specs.Numbers.{element_at, low_first, first_number, number_at}
-use Rattle.wire.proofs.Elements.{length-each, put-nothing, put-piece}
+use Rattle.laws.proofs.Filling.{Piece, Filling, wrote-unfitted}
+use Rattle.wire.specs.Numbers.{element_at, low_first, first_number, number_at, length-number}
+use Rattle.wire.proofs.Elements.{put-copied, length-each, put-piece}
 
 -- ---- reading
 
@@ -33,11 +34,11 @@ pub number-none : (bytes : List ℕ) (index : ℕ) → length bytes / 4 ≤ inde
 unfolding element_at
 number-none bytes index h = first-none (drop (4 * index) bytes) (simp length-drop (omega arith))
 
-pub number-some : (bytes : List ℕ) (index : ℕ) {low high : ℕ} → index < length bytes / 4
-    → low ≡ get_or bytes (4 * index) 0 + 0x100 * get_or bytes (4 * index + 1) 0
-    → high ≡ get_or bytes (4 * index + 2) 0 + 0x100 * get_or bytes (4 * index + 3) 0 → low + 0x10000 * high ≡ number_at bytes index
+pub number-some : (bytes : List ℕ) (index : ℕ) {number : ℕ} → index < length bytes / 4
+    → number ≡ get_or bytes (4 * index) 0 + get_or bytes (4 * index + 1) 0 * 0x100 + get_or bytes (4 * index + 2) 0 * 0x10000 + get_or bytes (4 * index + 3) 0 * 0x1000000
+    → number ≡ number_at bytes index
 unfolding element_at
-number-some bytes index h e k = rw (e, k) (sym (first_some bytes (4 * index) (omega arith)))
+number-some bytes index h e = omega (arith, e, first_some bytes (4 * index) (omega arith))
 
 -- ---- writing
 
@@ -45,28 +46,21 @@ low-first : (value : ℕ) → low_first value ≡ value % 0x100 ∷ value / 0x10
 unfolding low_first
 low-first value = refl
 
-length-number : (value : ℕ) → length (low_first value) ≡ 4
-length-number value = ap length (low-first value)
+pub put-none : (value index : ℕ) (bytes : List ℕ) → length bytes / 4 ≤ index
+    → bytes ≡ sets bytes (4 * index) (fitted (low_first value) bytes (4 * index))
+put-none value index bytes h = (wrote-unfitted {out = bytes} {at = 4 * index} (low-first value) (omega arith)).holds
 
-module _ (value index : ℕ) (bytes : List ℕ) where
-  pub put-none : length bytes / 4 ≤ index → bytes ≡ sets bytes (4 * index) (fitted (low_first value) bytes (4 * index))
-  put-none h = (wrote-unfitted {out = bytes} {at = 4 * index} (low-first value) (omega arith)).holds
-
-  pub put_four : index < length bytes / 4
-      → set (set (set (set bytes (4 * index) (value % 0x100)) (4 * index + 1) (value / 0x100 % 0x100)) (4 * index + 2) (value / 0x10000 % 0x100))
-      (4 * index + 3) (value / 0x1000000)
-      ≡ sets bytes (4 * index) (fitted (low_first value) bytes (4 * index))
-  put_four h = (wrote-fitted {out = bytes} {at = 4 * index} (low-first value) (omega arith) (wrote-four (low-first value))).holds
+-- as the library writes them, the highest byte is cut to a byte too
+pub put-four : (value index : ℕ) (bytes : List ℕ) {four new : List ℕ} → index < length bytes / 4 → value < 0x100000000
+    → four ≡ value % 0x100 ∷ value / 0x100 % 0x100 ∷ value / 0x10000 % 0x100 ∷ value / 0x1000000 % 0x100 ∷ [] → new ≡ four
+    → put_mid (4 * index) (4 * index + 4 - 4 * index) bytes new ≡ sets bytes (4 * index) (fitted (low_first value) bytes (4 * index))
+put-four value index bytes h small w e =
+    let high : value / 0x1000000 % 0x100 ≡ value / 0x1000000 = omega arith in
+    put-copied bytes (4 * index) 4 (length-number value) (omega arith) (e ∙ w ∙ rw high (sym (low-first value)))
 
 -- many numbers: as long as they are
 pub length-each-number : (values : List ℕ) → length (each low_first values) ≡ 4 * length values
 length-each-number values = length-each 4 low_first length-number values
-
-pub numbers_fit : (values bytes : List ℕ) → length values ≤ length bytes / 4 → length (each low_first values) ≤ length bytes
-numbers_fit values bytes h = omega (arith, length-each-number values)
-
-pub numbers-none : (values bytes : List ℕ) → length bytes / 4 < length values → bytes ≡ sets bytes 0 (fitted (each low_first values) bytes 0)
-numbers-none values bytes h = put-nothing (each low_first values) bytes (omega (arith, length-each-number values))
 
 -- of a `whole` that fits the next number is written
 pub put_next : {whole out₀ : List ℕ} (h : length whole ≤ length out₀) (value : ℕ) {left rest out out' : List ℕ} {k k' : ℕ}

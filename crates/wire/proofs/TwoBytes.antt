@@ -1,17 +1,17 @@
 -- Units of 16 bits at an index, read and written. In order: a unit that is not there, and one that
 -- is; one unit written, and the next of many.
-use mathlib.Core.Path.{◌≡◌, refl, sym, ap, ◌∙◌}
+use mathlib.Core.Path.{◌≡◌, refl, sym, ◌∙◌}
 use mathlib.Core.List.{List, [], ◌∷◌}
-use Prim.Native.Nat.{ℕ, ◌+◌, ◌*◌, ◌/◌, ◌%◌, ◌≤◌, ◌<◌}
+use Prim.Native.Nat.{ℕ, ◌+◌, ◌-◌, ◌*◌, ◌/◌, ◌%◌, ◌≤◌, ◌<◌}
 use native.Mathlib.Omega.{arith}
-use lib.ListN.{length, get_or, drop, set, length-drop}
+use borrow.Rule.Slice.PartMut.{put_mid}
+use lib.ListN.{length, get_or, drop, length-drop}
 use lib.Seq.{sets}
-use Rattle.laws.specs.Lists.{each}
 use Rattle.laws.specs.Writing.{fitted}
 use Rattle.laws.proofs.Lists.{at-index}
-use Rattle.laws.proofs.Filling.{Piece, Filling, wrote-pair, wrote-fitted, wrote-unfitted}
-use Rattle.wire.specs.Numbers.{element_at, unit_bytes, first_unit, unit_at}
-use Rattle.wire.proofs.Elements.{length-each, put-nothing, put-piece}
+use Rattle.laws.proofs.Filling.{wrote-unfitted}
+use Rattle.wire.specs.Numbers.{element_at, unit_bytes, first_unit, unit_at, length-unit}
+use Rattle.wire.proofs.Elements.{put-copied}
 
 -- ---- reading
 
@@ -30,9 +30,9 @@ unfolding element_at
 unit-none bytes index h = first-none (drop (2 * index) bytes) (simp length-drop (omega arith))
 
 pub unit-some : (bytes : List ℕ) (index : ℕ) {unit : ℕ} → index < length bytes / 2
-    → unit ≡ get_or bytes (2 * index) 0 + 0x100 * get_or bytes (2 * index + 1) 0 → unit ≡ unit_at bytes index
+    → unit ≡ get_or bytes (2 * index) 0 + get_or bytes (2 * index + 1) 0 * 0x100 → unit ≡ unit_at bytes index
 unfolding element_at
-unit-some bytes index h e = e ∙ sym (first_some bytes (2 * index) (omega arith))
+unit-some bytes index h e = omega (arith, e, first_some bytes (2 * index) (omega arith))
 
 -- ---- writing
 
@@ -40,30 +40,14 @@ unit-bytes : (value : ℕ) → unit_bytes value ≡ value % 0x100 ∷ value / 0x
 unfolding unit_bytes
 unit-bytes value = refl
 
-length-unit : (value : ℕ) → length (unit_bytes value) ≡ 2
-length-unit value = ap length (unit-bytes value)
+pub put-none : (value index : ℕ) (bytes : List ℕ) → length bytes / 2 ≤ index
+    → bytes ≡ sets bytes (2 * index) (fitted (unit_bytes value) bytes (2 * index))
+put-none value index bytes h = (wrote-unfitted {out = bytes} {at = 2 * index} (unit-bytes value) (omega arith)).holds
 
-module _ (value index : ℕ) (bytes : List ℕ) where
-  pub put-none : length bytes / 2 ≤ index → bytes ≡ sets bytes (2 * index) (fitted (unit_bytes value) bytes (2 * index))
-  put-none h = (wrote-unfitted {out = bytes} {at = 2 * index} (unit-bytes value) (omega arith)).holds
-
-  pub put_two : index < length bytes / 2
-      → set (set bytes (2 * index) (value % 0x100)) (2 * index + 1) (value / 0x100)
-      ≡ sets bytes (2 * index) (fitted (unit_bytes value) bytes (2 * index))
-  put_two h = (wrote-fitted {out = bytes} {at = 2 * index} (unit-bytes value) (omega arith) (wrote-pair (unit-bytes value))).holds
-
--- many units: as long as they are
-length-each-unit : (values : List ℕ) → length (each unit_bytes values) ≡ 2 * length values
-length-each-unit values = length-each 2 unit_bytes length-unit values
-
-pub units-fit : (values bytes : List ℕ) → length values ≤ length bytes / 2 → length (each unit_bytes values) ≤ length bytes
-units-fit values bytes h = omega (arith, length-each-unit values)
-
-pub units-none : (values bytes : List ℕ) → length bytes / 2 < length values → bytes ≡ sets bytes 0 (fitted (each unit_bytes values) bytes 0)
-units-none values bytes h = put-nothing (each unit_bytes values) bytes (omega (arith, length-each-unit values))
-
--- of a `whole` that fits the next unit is written
-pub put_next : {whole out₀ : List ℕ} (h : length whole ≤ length out₀) (value : ℕ) {left rest out out' : List ℕ} {k k' : ℕ}
-    → Filling whole left out₀ out k → Piece left (unit_bytes value) rest → out' ≡ sets out k (fitted (unit_bytes value) out k) → k' ≡ k + 2
-    → Filling whole rest out₀ out' k'
-put_next h value f p e n = put-piece h (length-unit value) f p e n
+-- as the library writes them, the high byte is cut to a byte too
+pub put-two : (value index : ℕ) (bytes : List ℕ) {two new : List ℕ} → index < length bytes / 2 → value < 0x10000
+    → two ≡ value % 0x100 ∷ value / 0x100 % 0x100 ∷ [] → new ≡ two
+    → put_mid (2 * index) (2 * index + 2 - 2 * index) bytes new ≡ sets bytes (2 * index) (fitted (unit_bytes value) bytes (2 * index))
+put-two value index bytes h small w e =
+    let high : value / 0x100 % 0x100 ≡ value / 0x100 = omega arith in
+    put-copied bytes (2 * index) 2 (length-unit value) (omega arith) (e ∙ w ∙ rw high (sym (unit-bytes value)))

@@ -1,10 +1,8 @@
 -- The eight numbers of a call and the four of an answer (docs/CALLS.md, 'The wire form').
-use Rattle.std.specs.Prelude.{List, [], ◌∷◌, ℕ, ◌%◌}
+use Rattle.std.specs.Prelude.{List, [], ◌∷◌, ℕ, ◌%◌, Result, Ok, Err}
 use Rattle.laws.specs.Lists.{each}
 use Rattle.answers.specs.Answers.{told}
 use Rattle.answers.specs.declared.refusal.Refusal.{Refusal}
-use Rattle.answers.specs.declared.answer.Filled.{Filled}
-use Rattle.answers.specs.declared.answer.Filled.TheVariants.{Done, Refused}
 use Rattle.wire.specs.Numbers.{low_first, number_at}
 use Rattle.wire.specs.declared.head.Head.{Head}
 use Rattle.wire.specs.declared.reply.Reply.{Reply}
@@ -34,9 +32,9 @@ abbrev pub refused_reply : Refusal → Reply
 refused_reply r = record { refusal = (told r).number; value = short (told r).place; second = 0; third = 0 }
 
 -- and of one that fills a buffer
-abbrev pub filled_reply : Filled → Reply
-filled_reply (Done size) = done_reply (short size) 0 0
-filled_reply (Refused r) = refused_reply r
+abbrev pub filled_reply : Result ℕ Refusal → Reply
+filled_reply (Ok size) = done_reply (short size) 0 0
+filled_reply (Err r) = refused_reply r
 
 -- the four numbers of an answer as bytes
 unfoldable pub reply_bytes : Reply → List ℕ

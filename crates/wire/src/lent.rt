@@ -7,39 +7,47 @@ pub fn at_most(most: usize, size: usize) -> usize
     ensures upper_bound { result ≤ most }
     ensures upper_bound_2 { result ≤ size }
 {
-    if size < most {
-        return size;
-    }
-    most
+    size.min(most)
 }
 
-// Fills a buffer with the byte A5: as code points, as units, and as bytes.
-pub fn fill(out: &mut [u32])
-    ensures { out.new ≡ replicate (length out.old) 0xA5A5A5A5 }
+// A size if there is any, else nothing.
+pub fn if_so(so: bool, size: usize) -> usize
+    ensures value { result ≡ cond so size 0 }
+    ensures upper_bound { result ≤ size }
 {
-    let mut i = 0;
-    while i < out.len() {
-        out[i] = 0xA5A5_A5A5;
-        i += 1;
-    }
+    if so { size } else { 0 }
 }
 
-pub fn fill_units(out: &mut [u16])
-    ensures { out.new ≡ replicate (length out.old) 0xA5A5 }
-{
-    let mut i = 0;
-    while i < out.len() {
-        out[i] = 0xA5A5;
-        i += 1;
-    }
+// What a lent buffer holds before a call: the byte A5 only.
+pub trait Lent: Copy {
+    ghost FILL: { Self };
+
+    const FILL: Self;
 }
 
-pub fn fill_bytes(out: &mut [u8])
-    ensures { out.new ≡ replicate (length out.old) 0xA5 }
+impl Lent for u32 {
+    ghost FILL = { 0xA5A5A5A5 };
+
+    const FILL: u32 = 0xA5A5_A5A5;
+}
+
+impl Lent for u16 {
+    ghost FILL = { 0xA5A5 };
+
+    const FILL: u16 = 0xA5A5;
+}
+
+impl Lent for u8 {
+    ghost FILL = { 0xA5 };
+
+    const FILL: u8 = 0xA5;
+}
+
+// Fills a buffer with it.
+pub fn fill<T: Lent>(out: &mut [T])
+    ensures { out.new ≡ replicate (length out.old) T.FILL }
 {
-    let mut i = 0;
-    while i < out.len() {
-        out[i] = 0xA5;
-        i += 1;
+    for element in out.iter_mut() {
+        *element = T::FILL;
     }
 }

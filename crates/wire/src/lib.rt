@@ -3,14 +3,16 @@
 // fill of a lent buffer. Every function takes every input.
 #![tactic(auto)]
 
+mod element;
 mod head;
+mod input;
 mod lent;
 mod numbers;
 mod reply;
 mod units;
 
+pub use element::{Element, put, read};
 pub use head::{Head, head_of};
-pub use lent::{at_most, fill, fill_bytes, fill_units};
-pub use numbers::{put_numbers, read_numbers};
+pub use input::read_full;
+pub use lent::{Lent, at_most, fill, if_so};
 pub use reply::{Reply, counted, done, filled, put_reply, refused};
-pub use units::{put_units, read_units};

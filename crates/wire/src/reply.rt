@@ -4,8 +4,8 @@ ghost use Rattle.std.proofs.lemmas.List.Edits.{sets};
 ghost use Rattle.laws.specs.Writing.{fitted};
 ghost use Rattle.wire.specs.Messages.{short, done_reply, refused_reply, filled_reply, reply_bytes};
 
-use crate::numbers::put_number;
-use answers::{Filled, Refusal};
+use crate::element::put;
+use answers::Refusal;
 
 #[derive(Clone, Copy)]
 pub struct Reply {
@@ -52,25 +52,20 @@ pub fn refused(refusal: Refusal) -> Reply
     }
 }
 
-pub fn filled(answer: Filled) -> Reply
+pub fn filled(answer: Result<usize, Refusal>) -> Reply
     ensures { result ≡ filled_reply answer }
 {
     match answer {
-        Filled::Done(length) => counted(length, 0),
-        Filled::Refused(refusal) => refused(refusal),
+        Ok(length) => counted(length, 0),
+        Err(refusal) => refused(refusal),
     }
 }
 
 // Writes the answer's numbers to the front: nothing if there is no room for all of them.
-#[tactic(auto, using(crate::proofs::Replies::reply_none))]
+#[tactic(auto, unfolding(crate::specs::Messages::reply_bytes))]
 pub fn put_reply(answer: Reply, bytes: &mut [u8])
     ensures { bytes.new ≡ sets bytes.old 0 (fitted (reply_bytes answer) bytes.old 0) }
 {
-    if bytes.len() < 16 {
-        return;
-    }
-    put_number(answer.refusal, 0, bytes);
-    put_number(answer.value, 1, bytes);
-    put_number(answer.second, 2, bytes);
-    put_number(answer.third, 3, bytes);
+    let numbers = [answer.refusal, answer.value, answer.second, answer.third];
+    put(&numbers, bytes);
 }

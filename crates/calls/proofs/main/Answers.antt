@@ -4,14 +4,14 @@ use Prim.Native.Nat.{ℕ}
 use lib.ListN.{length-replicate}
 use Rattle.calls.proofs.main.Goals as goal
 
-pub slice_bounds-all_calls-end : goal.slice_bounds-all_calls-end
-slice_bounds-all_calls-end c = sym (length-replicate {A = ℕ} 160000 0)
+pub slice_bounds-buffers-end : goal.slice_bounds-buffers-end
+slice_bounds-buffers-end c = sym (length-replicate {A = ℕ} 160000 0)
 
-pub slice_bounds-all_calls-end-2 : goal.slice_bounds-all_calls-end-2
-slice_bounds-all_calls-end-2 c = sym (length-replicate {A = ℕ} 40000 0)
+pub slice_bounds-buffers-end-2 : goal.slice_bounds-buffers-end-2
+slice_bounds-buffers-end-2 c = sym (length-replicate {A = ℕ} 40000 0)
 
-pub slice_bounds-all_calls-end-3 : goal.slice_bounds-all_calls-end-3
-slice_bounds-all_calls-end-3 c = sym (length-replicate {A = ℕ} 120000 0)
+pub slice_bounds-buffers-end-3 : goal.slice_bounds-buffers-end-3
+slice_bounds-buffers-end-3 c = sym (length-replicate {A = ℕ} 120000 0)
 
-pub slice_bounds-all_calls-end-4 : goal.slice_bounds-all_calls-end-4
-slice_bounds-all_calls-end-4 c = sym (length-replicate {A = ℕ} 600016 0)
+pub slice_bounds-buffers-end-4 : goal.slice_bounds-buffers-end-4
+slice_bounds-buffers-end-4 c = sym (length-replicate {A = ℕ} 600016 0)

@@ -11,6 +11,6 @@ pub returns-then-third-eq0 : goal.returns-then-third-eq0
 returns-then-third-eq0 c = third-zero _ _ _ c.if-third-eq0.true
 
 pub returns : goal.returns
-returns c = let two = c.narrowed.ensures (_ ∷ []) c.span_of.ensures in
+returns c = let two = c.narrowed.ensures (_ ∷ []) c.of.ensures in
     three-found c.if-second-eq0.false c.if-third-eq0.false
     (c.narrowed-2.ensures (_ ∷ _ ∷ []) two) c.row_in.ensures

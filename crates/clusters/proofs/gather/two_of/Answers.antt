@@ -8,4 +8,4 @@ pub returns-then-second-eq0 : goal.returns-then-second-eq0
 returns-then-second-eq0 c = two-zero _ _ c.if-second-eq0.true
 
 pub returns : goal.returns
-returns c = two-found c.if-second-eq0.false (c.narrowed.ensures (_ ∷ []) c.span_of.ensures) c.row_in.ensures
+returns c = two-found c.if-second-eq0.false (c.narrowed.ensures (_ ∷ []) c.of.ensures) c.row_in.ensures

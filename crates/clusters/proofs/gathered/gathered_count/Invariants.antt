@@ -6,12 +6,8 @@ use Rattle.clusters.specs.Gathering.{gathered}
 use Rattle.laws.proofs.Filling.{Counting}
 use Rattle.laws.specs.Machines.{from}
 use lib.ListN.{length, drop}
-use Prim.Native.Nat.{◌≤◌, ◌-◌}
 use mathlib.Core.Path.{◌≡◌}
 use Rattle.clusters.proofs.gathered.gathered_count.Given as goal
 
-abbrev pub invariant-loop-i : goal.invariant-loop-i
-invariant-loop-i l = (l.i ≤ length l.text) × (length l.scratch ≡ 14) × (l.writer.at ≡ 0) × Counting (gathered l.text) (from coded (state_of l.writer) (drop l.i l.text)) l.total
-
-abbrev pub decreases-loop-i : goal.decreases-loop-i
-decreases-loop-i l = length l.text - l.i
+abbrev pub invariant-loop-code : goal.invariant-loop-code
+invariant-loop-code l = (length l.scratch ≡ 14) × (l.writer.at ≡ 0) × Counting (gathered l.text) (from coded (state_of l.writer) (drop l.code-index l.text)) l.total

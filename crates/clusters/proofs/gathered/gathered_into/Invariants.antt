@@ -4,12 +4,8 @@ use Rattle.clusters.specs.Inner.{coded, state_of}
 use Rattle.clusters.specs.Gathering.{gathered}
 use Rattle.laws.proofs.Filling.{Filling}
 use Rattle.laws.specs.Machines.{from}
-use lib.ListN.{length, drop}
-use Prim.Native.Nat.{◌≤◌, ◌-◌}
+use lib.ListN.{drop}
 use Rattle.clusters.proofs.gathered.gathered_into.Given as goal
 
-abbrev pub invariant-loop-read : goal.invariant-loop-read
-invariant-loop-read l = (l.read ≤ length l.text) × Filling (gathered l.text) (from coded (state_of l.writer) (drop l.read l.text)) l.initial.out l.out l.writer.at
-
-abbrev pub decreases-loop-read : goal.decreases-loop-read
-decreases-loop-read l = length l.text - l.read
+abbrev pub invariant-loop-code : goal.invariant-loop-code
+invariant-loop-code l = Filling (gathered l.text) (from coded (state_of l.writer) (drop l.code-index l.text)) l.initial.out l.out l.writer.at

@@ -5,22 +5,22 @@ use Rattle.laws.proofs.Filling.{room-first, room-second, wrote-two}
 use Rattle.clusters.proofs.simple.put_simple.Goals as goal
 
 pub put_part-requires : goal.put_part-requires
-put_part-requires c = record { rows = c.requires.rows; room = room-one-part _ c.full_parts_of-parts.ensures c.in-One.is c.requires.room }
+put_part-requires c = room-one-part _ c.full_parts_of-parts.ensures c.in-One.is c.requires
 
 pub put_part-next-requires : goal.put_part-next-requires
-put_part-next-requires c = record { rows = c.requires.rows; room = room-first c.requires.room (simple-two _ c.full_parts_of-parts.ensures c.in-Two.is) }
+put_part-next-requires c = room-first c.requires (simple-two _ c.full_parts_of-parts.ensures c.in-Two.is)
 
 pub put_part-requires-in-Two : goal.put_part-requires-in-Two
-put_part-requires-in-Two c = record { rows = c.requires.rows; room = room-second c.requires.room (simple-two _ c.full_parts_of-parts.ensures c.in-Two.is) c.put_part-next.ensures }
+put_part-requires-in-Two c = room-second c.requires (simple-two _ c.full_parts_of-parts.ensures c.in-Two.is) c.put_part-next.ensures
 
 pub put_part-next-requires-in-Three : goal.put_part-next-requires-in-Three
-put_part-next-requires-in-Three c = record { rows = c.requires.rows; room = room-first c.requires.room (simple-three _ c.full_parts_of-parts.ensures c.in-Three.is) }
+put_part-next-requires-in-Three c = room-first c.requires (simple-three _ c.full_parts_of-parts.ensures c.in-Three.is)
 
 pub put_part-last-requires : goal.put_part-last-requires
-put_part-last-requires c = let three = simple-three _ c.full_parts_of-parts.ensures c.in-Three.is in record { rows = c.requires.rows; room = room-first (room-second c.requires.room three c.put_part-next-in-Three.ensures) (two-rows _ _) }
+put_part-last-requires c = let three = simple-three _ c.full_parts_of-parts.ensures c.in-Three.is in room-first (room-second c.requires three c.put_part-next-in-Three.ensures) (two-rows _ _)
 
 pub put_part-requires-in-Three : goal.put_part-requires-in-Three
-put_part-requires-in-Three c = let three = simple-three _ c.full_parts_of-parts.ensures c.in-Three.is in record { rows = c.requires.rows; room = room-second (room-second c.requires.room three c.put_part-next-in-Three.ensures) (two-rows _ _) c.put_part-last.ensures }
+put_part-requires-in-Three c = let three = simple-three _ c.full_parts_of-parts.ensures c.in-Three.is in room-second (room-second c.requires three c.put_part-next-in-Three.ensures) (two-rows _ _) c.put_part-last.ensures
 
 pub returns-in-One : goal.returns-in-One
 returns-in-One c = wrote-one-part _ c.full_parts_of-parts.ensures c.in-One.is c.put_part.ensures

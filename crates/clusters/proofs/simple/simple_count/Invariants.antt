@@ -3,12 +3,8 @@
 use Rattle.clusters.specs.Simple.{simple_of, simple}
 use Rattle.laws.proofs.Filling.{Counting}
 use Rattle.laws.specs.Lists.{each}
-use lib.ListN.{length, drop}
-use Prim.Native.Nat.{◌≤◌, ◌-◌}
+use lib.ListN.{drop}
 use Rattle.clusters.proofs.simple.simple_count.Given as goal
 
-abbrev pub invariant-loop-i : goal.invariant-loop-i
-invariant-loop-i l = (l.i ≤ length l.text) × Counting (simple l.text) (each simple_of (drop l.i l.text)) l.count
-
-abbrev pub decreases-loop-i : goal.decreases-loop-i
-decreases-loop-i l = length l.text - l.i
+abbrev pub invariant-loop-code : goal.invariant-loop-code
+invariant-loop-code l = Counting (simple l.text) (each simple_of (drop l.code-index l.text)) l.count

@@ -3,12 +3,8 @@
 use Rattle.clusters.specs.Simple.{simple_of, simple}
 use Rattle.laws.proofs.Filling.{Filling}
 use Rattle.laws.specs.Lists.{each}
-use lib.ListN.{length, drop}
-use Prim.Native.Nat.{◌≤◌, ◌-◌}
+use lib.ListN.{drop}
 use Rattle.clusters.proofs.simple.simple_into.Given as goal
 
-abbrev pub invariant-loop-read : goal.invariant-loop-read
-invariant-loop-read l = (l.read ≤ length l.text) × Filling (simple l.text) (each simple_of (drop l.read l.text)) l.initial.out l.out l.at
-
-abbrev pub decreases-loop-read : goal.decreases-loop-read
-decreases-loop-read l = length l.text - l.read
+abbrev pub invariant-loop-code : goal.invariant-loop-code
+invariant-loop-code l = Filling (simple l.text) (each simple_of (drop l.code-index l.text)) l.initial.out l.out l.at

@@ -3,8 +3,8 @@
 use Rattle.clusters.proofs.Rows.{row_read, row-alone}
 use Rattle.clusters.proofs.table.row_at.Goals as goal
 
-pub returns-then-packed-eq0 : goal.returns-then-packed-eq0
-returns-then-packed-eq0 c = row-alone c.packed_at-packed.ensures c.if-packed-eq0.true
+pub returns-in-Some : goal.returns-in-Some
+returns-in-Some c = row_read c.in-Some.ensures c.letter.ensures c.letter-in-Some.ensures
 
-pub returns : goal.returns
-returns c = row_read c.packed_at-packed.ensures c.if-packed-eq0.false c.letter.ensures c.letter-2.ensures
+pub returns-in-None : goal.returns-in-None
+returns-in-None c = row-alone c.in-None.ensures

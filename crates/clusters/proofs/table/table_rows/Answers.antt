@@ -1,5 +1,5 @@
--- `clusters::table::table_rows` meets its contract: the constant unpacks to the rows of its
--- codes, by one computed test.
+-- `clusters::table::table_rows` meets its contract: the numbers unpack to the rows of their codes, by one
+-- computed test.
 use mathlib.Core.Path.{refl}
 use Rattle.laws.specs.Lists.{each}
 use Rattle.laws.proofs.Strings.{same_true}

@@ -7,4 +7,4 @@ use Rattle.fillers.proofs.pairs.pairs.Goals as goal
 
 pub returns : goal.returns
 unfolding pairs
-returns c = record { value = refl; pairs = pairs-right _ refl tt }
+returns c = pairs-right _ refl tt

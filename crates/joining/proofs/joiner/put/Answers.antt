@@ -3,7 +3,6 @@
 use Rattle.joining.specs.Answers.{emitted}
 use Rattle.laws.proofs.Filling.{wrote_one, wrote-pair, wrote-empty, wrote-fitted, wrote-unfitted}
 use native.Mathlib.Omega.{arith}
-use lib.ListN.{length-set}
 use mathlib.Core.Path.{ap}
 use Rattle.joining.proofs.joiner.put.Goals as goal
 
@@ -15,9 +14,6 @@ returns-then-out-at-2 c = wrote-unfitted (ap emitted c.in-Two.is) (omega (arith,
 
 pub returns-then-out-at-lt2 : goal.returns-then-out-at-lt2
 returns-then-out-at-lt2 c = wrote-unfitted (ap emitted c.in-Two.is) (omega (arith, c.if-out-at-lt2.true))
-
-pub bounds-out-at-in-Two-2 : goal.bounds-out-at-in-Two-2
-bounds-out-at-in-Two-2 c = simp length-set (omega (arith, c.if-out-at-lt2.false))
 
 pub returns-in-Empty : goal.returns-in-Empty
 returns-in-Empty c = wrote-empty (ap emitted c.in-Empty.is)

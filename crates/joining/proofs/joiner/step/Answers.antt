@@ -2,8 +2,8 @@
 use Rattle.joining.proofs.Joiners.{stepped-apart, stepped-joined}
 use Rattle.joining.proofs.joiner.step.Goals as goal
 
-pub returns-then-syllable-eq0 : goal.returns-then-syllable-eq0
-returns-then-syllable-eq0 c = stepped-apart _ _ c.met-syllable.ensures c.if-syllable-eq0.true c.opened-next.ensures c.parted.ensures
+pub returns-in-Some : goal.returns-in-Some
+returns-in-Some c = stepped-joined _ _ c.in-Some.ensures c.opened-made.ensures c.united.ensures
 
-pub returns : goal.returns
-returns c = stepped-joined _ _ c.met-syllable.ensures c.if-syllable-eq0.false c.opened-made.ensures c.united.ensures
+pub returns-in-None : goal.returns-in-None
+returns-in-None c = stepped-apart _ _ c.in-None.ensures c.opened-next.ensures c.parted.ensures

@@ -25,9 +25,6 @@ returns-in-4449-to-4469 c = sym (role-peak _ (omega arith) (omega arith))
 pub returns-in-4520-to-4546 : goal.returns-in-4520-to-4546
 returns-in-4520-to-4546 c = sym (role-final _ (omega arith) (omega arith))
 
-pub returns-in_default-code : goal.returns-in_default-code
-returns-in_default-code c = sym (role-none _ (λ h. omega arith) (λ h. omega arith) (λ h. omega arith) (λ s. omega (arith, syllable-least _ s)))
-
 pub returns-in_default-code-2 : goal.returns-in_default-code-2
 returns-in_default-code-2 c = sym (role-none _ (λ h. omega arith) (λ h. omega arith) (λ h. omega arith) (λ s. omega (arith, syllable-least _ s)))
 

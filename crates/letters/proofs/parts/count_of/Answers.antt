@@ -5,14 +5,14 @@ use Rattle.letters.proofs.Steps.{syllable-below, syllable-above}
 use native.Mathlib.Omega.{arith}
 use Rattle.letters.proofs.parts.count_of.Goals as goal
 
-pub returns-then-code-eq0 : goal.returns-then-code-eq0
-returns-then-code-eq0 c = count-lv _ (omega arith) (omega arith) c.if-code-eq0.true
+pub returns-then-code-eq0-clause-is : goal.returns-then-code-eq0-clause-is
+returns-then-code-eq0-clause-is c = count-lv _ (omega arith) (omega arith) c.if-code-eq0.true
 
-pub returns-else-code-eq0 : goal.returns-else-code-eq0
-returns-else-code-eq0 c = count-lvt _ (omega arith) (omega arith) c.if-code-eq0.false
+pub returns-else-code-eq0-clause-is : goal.returns-else-code-eq0-clause-is
+returns-else-code-eq0-clause-is c = count-lvt _ (omega arith) (omega arith) c.if-code-eq0.false
 
-pub returns-in_default : goal.returns-in_default
-returns-in_default c = count-other _ (syllable-below _ (omega arith))
+pub returns-in_default-clause-is : goal.returns-in_default-clause-is
+returns-in_default-clause-is c = count-other _ (syllable-below _ (omega arith))
 
-pub returns-in_default-2 : goal.returns-in_default-2
-returns-in_default-2 c = count-other _ (syllable-above _ (omega arith))
+pub returns-in_default-2-clause-is : goal.returns-in_default-2-clause-is
+returns-in_default-2-clause-is c = count-other _ (syllable-above _ (omega arith))

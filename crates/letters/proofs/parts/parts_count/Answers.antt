@@ -1,25 +1,12 @@
-use Rattle.letters.proofs.FullParts.{parts-piece, parts-end, full-most}
-use Rattle.laws.proofs.Filling.{counting-none, counting-fits, counting_more, counting-all}
-use native.Mathlib.Omega.{arith}
-use borrow.Author.Rules.{rules}
+-- `letters::parts::parts_count` meets its contract: the chain adds up the parts of each code point.
+use mathlib.Core.Path.{◌≡◌, sym, ◌∙◌}
+use Rattle.std.proofs.Common.{rules, sum_by, length}
+use Rattle.std.proofs.iter.runs.Made.{chains}
+use Rattle.letters.specs.Syllables.{parts_of}
+use Rattle.letters.proofs.FullParts.{full-sum}
 use Rattle.letters.proofs.parts.parts_count.Goals as goal
 
-pub loop-i-init : goal.loop-i-init
-loop-i-init c = (search rules, counting-none _)
-
-pub overflow_add-count : goal.overflow_add-count
-overflow_add-count c = omega (
-  arith,
-  counting-fits c.loop-i.invariant.1 (parts-piece _ _ c.loop-i-test.true) c.count_of-count.ensures,
-  full-most c.args.text.now,
-  c.requires,
-)
-
-pub loop-i-preserved : goal.loop-i-preserved
-loop-i-preserved c = (
-  search rules,
-  counting_more c.loop-i.invariant.1 (parts-piece _ _ c.loop-i-test.true) c.count_of-count.ensures,
-)
-
 pub returns : goal.returns
-returns c = counting-all c.loop-i.invariant.1 (parts-end _ _ c.loop-i-test.false)
+returns c =
+    let sum : c.sum.result ≡ sum_by (λ x. length (parts_of x)) c.args.text.now = search (rules, chains) in
+    sum ∙ sym (full-sum c.args.text.now)

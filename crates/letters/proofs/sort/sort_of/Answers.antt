@@ -257,9 +257,6 @@ returns-in-55216-to-55238 c = sort-between 0xD7B0 0xD7C6 tt (omega arith) (omega
 pub returns-in-55243-to-55291 : goal.returns-in-55243-to-55291
 returns-in-55243-to-55291 c = sort-between 0xD7CB 0xD7FB tt (omega arith) (omega arith)
 
-pub returns-in_default-code : goal.returns-in_default-code
-returns-in_default-code c = sort-between 0 0x10FF tt (omega arith) (omega arith)
-
 pub returns-in_default-code-2 : goal.returns-in_default-code-2
 returns-in_default-code-2 c = sort-between 0x1200 0xA95F tt (omega arith) (omega arith)
 

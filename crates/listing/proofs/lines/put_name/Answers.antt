@@ -5,13 +5,13 @@ use Rattle.listing.proofs.LineWriting.{name-fits, wrote-named, refused-index, wr
 use Rattle.listing.proofs.lines.put_name.Goals as goal
 
 pub overflow_add-result : goal.overflow_add-result
-overflow_add-result c = omega (arith, name-fits _ c.name-named.ensures c.in-Done.is)
+overflow_add-result c = omega (arith, name-fits _ c.name.ensures c.in-Ok.is)
 
 pub bounds-out-at : goal.bounds-out-at
-bounds-out-at c = refused-index _ c.requires c.name-named.ensures c.in-Refused.is
+bounds-out-at c = refused-index _ c.requires c.name.ensures c.in-Err.is
 
-pub returns-in-Done : goal.returns-in-Done
-returns-in-Done c = wrote-named _ c.requires c.name-named.ensures c.in-Done.is
+pub returns-in-Ok : goal.returns-in-Ok
+returns-in-Ok c = wrote-named _ c.requires c.name.ensures c.in-Ok.is
 
-pub returns-in-Refused : goal.returns-in-Refused
-returns-in-Refused c = wrote-unnamed _ c.requires c.name-named.ensures c.in-Refused.is
+pub returns-in-Err : goal.returns-in-Err
+returns-in-Err c = wrote-unnamed _ c.requires c.name.ensures c.in-Err.is

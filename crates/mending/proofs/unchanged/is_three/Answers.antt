@@ -1,30 +1,14 @@
 -- `mending::unchanged::is_three` meets its contract: what passes all its tests is a character from
 -- A000 to D7FF, with no E1 after it.
 use mathlib.Core.Bool.{false≢true}
-use borrow.Author.Tests.{ltb-true}
-use borrow.Author.Rules.{rules}
+use mathlib.Core.Path.{sym, ◌∙◌}
+use Rattle.mending.proofs.Passes.{lead-three}
 use Rattle.mending.proofs.unchanged.is_three.Goals as goal
+use Rattle.mending.proofs.unchanged.is_three.Goals.{then-is_lead, else-is_lead}
 
-pub returns-then-a-lt234 : goal.returns-then-a-lt234
-returns-then-a-lt234 c = λ q. absurd (false≢true q)
-
-pub returns-then-a-gt237 : goal.returns-then-a-gt237
-returns-then-a-gt237 c = λ q. absurd (false≢true q)
-
-pub returns-then-d-eq225 : goal.returns-then-d-eq225
-returns-then-d-eq225 c = λ q. absurd (false≢true q)
-
-pub returns-then-b-lt128 : goal.returns-then-b-lt128
-returns-then-b-lt128 c = λ q. absurd (false≢true q)
-
-pub returns-then-b-gt191 : goal.returns-then-b-gt191
-returns-then-b-gt191 c = λ q. absurd (false≢true q)
-
-pub returns-then-c-lt128 : goal.returns-then-c-lt128
-returns-then-c-lt128 c = λ q. absurd (false≢true q)
-
-pub returns-then-c-gt191 : goal.returns-then-c-gt191
-returns-then-c-gt191 c = λ q. absurd (false≢true q)
-
-pub returns : goal.returns
-returns c = λ q. search (rules, ltb-true c.args.b 0xA0 q)
+pub returns-then-is_continuation : goal.returns-then-is_continuation
+returns-then-is_continuation c = λ q. elim c.if-is_lead.branch [
+  | then-is_lead w ↦ lead-three (c.is_lead.ensures w.if-is_lead.true)
+      (sym w.is_continuation.ensures ∙ sym w.value-is ∙ c.if-is_continuation.true) (λ e. false≢true (rw e at q))
+  | else-is_lead w ↦ absurd (cc)
+]

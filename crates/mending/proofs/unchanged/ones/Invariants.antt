@@ -1,12 +1,7 @@
 -- `mending::unchanged::ones` meets its contract. The loop's invariant: what lies between the start
 -- and the index passes.
-use Prim.Native.Nat.{◌-◌}
-use lib.ListN.{length}
 use Rattle.mending.specs.Inner.{Passes}
 use Rattle.mending.proofs.unchanged.ones.Given as goal
 
 abbrev pub invariant-loop-at : goal.invariant-loop-at
 invariant-loop-at l = Passes l.text l.from l.at
-
-abbrev pub decreases-loop-at : goal.decreases-loop-at
-decreases-loop-at l = length l.text - l.at

@@ -11,10 +11,10 @@ run-end-requires c = omega (arith, c.requires.inside)
 
 pub count_place-requires : goal.count_place-requires
 count_place-requires c = count_fits c.requires
-    (character-next encodes16 _ _ c.requires.inside c.character_at-taken.ensures)
+    (character-next encodes16 _ _ c.requires.inside c.general_at-taken.ensures)
 
 pub returns-then-end-read : goal.returns-then-end-read
-returns-then-end-read c = count-character (character-next encodes16 _ _ c.requires.inside c.character_at-taken.ensures)
+returns-then-end-read c = count-character (character-next encodes16 _ _ c.requires.inside c.general_at-taken.ensures)
     c.count_place.ensures
 
 pub overflow_sub-result : goal.overflow_sub-result

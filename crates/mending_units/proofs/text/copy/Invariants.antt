@@ -1,11 +1,8 @@
 -- `mending_units::text::copy` meets its contract: the units read so far are those written, one
 -- after the other.
-use Prim.Native.Nat.{◌≤◌, ◌-◌}
+use Prim.Native.Nat.{◌≤◌}
 use Rattle.mending.proofs.Turns.{Copying}
 use Rattle.mending_units.proofs.text.copy.Given as goal
 
 abbrev pub invariant-loop-read : goal.invariant-loop-read
 invariant-loop-read l = (l.from ≤ l.read) × (l.read ≤ l.to) × Copying l.text l.from l.read l.initial.out l.at l.out l.written
-
-abbrev pub decreases-loop-read : goal.decreases-loop-read
-decreases-loop-read l = l.to - l.read

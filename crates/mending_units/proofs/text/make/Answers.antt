@@ -1,41 +1,30 @@
--- `mending_units::text::make` meets its contract: each of the three ways answers the character at
--- the index, which is then written.
+-- `mending_units::text::make` meets its contract: each of the three ways answers the character at the
+-- index, which is then written.
 use Rattle.utf16.proofs.Forms.{encodes16}
 use Rattle.mending.proofs.Turns.{character-fits, character-moved}
 use Rattle.mending.proofs.Characters.{character-next}
 use Rattle.mending_units.proofs.text.make.Goals as goal
 
-pub set-requires : goal.set-requires
-set-requires c = record {
-  fits_in = character-fits encodes16 c.requires (character-next encodes16 _ _
-      c.requires.inside (c.unpaired_at-unpaired.ensures.value c.if-unpaired-ne0.true));
-  code_bound = c.unpaired_at-unpaired.ensures.code_bound;
-}
+pub set-requires-clause-fits_in : goal.set-requires-clause-fits_in
+set-requires-clause-fits_in c = character-fits encodes16 c.requires
+    (character-next encodes16 _ _ c.requires.inside c.in-Some.ensures.value)
 
-pub returns-then-unpaired-ne0 : goal.returns-then-unpaired-ne0
-returns-then-unpaired-ne0 c = character-moved (character-next encodes16 _ _ c.requires.inside
-    (c.unpaired_at-unpaired.ensures.value c.if-unpaired-ne0.true))
+pub returns-in-Some : goal.returns-in-Some
+returns-in-Some c = character-moved (character-next encodes16 _ _ c.requires.inside c.in-Some.ensures.value)
     c.set.ensures
 
-pub set-requires-then-letter-ne0 : goal.set-requires-then-letter-ne0
-set-requires-then-letter-ne0 c = record {
-  fits_in = character-fits encodes16 c.requires (character-next encodes16 _ _
-      c.requires.inside (c.letter_at-letter.ensures.value
-      c.if-letter-ne0.true));
-  code_bound = c.letter_at-letter.ensures.code_bound;
-}
+pub set-requires-in-Some-letter_at-clause-fits_in : goal.set-requires-in-Some-letter_at-clause-fits_in
+set-requires-in-Some-letter_at-clause-fits_in c = character-fits encodes16 c.requires
+    (character-next encodes16 _ _ c.requires.inside c.in-Some-letter_at.ensures.value)
 
-pub returns-then-letter-ne0 : goal.returns-then-letter-ne0
-returns-then-letter-ne0 c = character-moved (character-next encodes16 _ _
-    c.requires.inside
-    (c.letter_at-letter.ensures.value c.if-letter-ne0.true))
-    c.set-then-letter-ne0.ensures
+pub returns-in-Some-letter_at : goal.returns-in-Some-letter_at
+returns-in-Some-letter_at c = character-moved (character-next encodes16 _ _ c.requires.inside c.in-Some-letter_at.ensures.value)
+    c.set-in-Some-letter_at.ensures
 
 pub place-requires : goal.place-requires
-place-requires c = character-fits encodes16 c.requires (character-next encodes16 _ _
-    c.requires.inside c.character_at-taken.ensures)
+place-requires c = character-fits encodes16 c.requires
+    (character-next encodes16 _ _ c.requires.inside c.general_at-taken.ensures)
 
 pub returns : goal.returns
-returns c = character-moved (character-next encodes16 _ _
-    c.requires.inside
-    c.character_at-taken.ensures) c.place.ensures
+returns c = character-moved (character-next encodes16 _ _ c.requires.inside c.general_at-taken.ensures)
+    c.place.ensures

@@ -7,14 +7,5 @@ use Rattle.mending_units.proofs.unchanged.singles.Goals as goal
 pub loop-at-init : goal.loop-at-init
 loop-at-init c = nothing c.requires
 
-pub overflow_cast-text : goal.overflow_cast-text
-overflow_cast-text c = omega (arith, c.shared_slice_known-in-loop-at-1.given c.loop-at.at)
-
-pub returns-then-not-is_quiet : goal.returns-then-not-is_quiet
-returns-then-not-is_quiet c = c.loop-at.invariant
-
 pub loop-at-preserved : goal.loop-at-preserved
-loop-at-preserved c = trails-more c.loop-at.invariant (omega arith) (omega (arith, c.shared_slice_known-in-loop-at-1.given c.loop-at.at)) (test-true c.is_quiet.ensures c.if-not-is_quiet.false)
-
-pub returns : goal.returns
-returns c = c.loop-at.invariant
+loop-at-preserved c = trails-more c.loop-at.invariant (omega arith) (omega (arith, c.type_inv.text c.loop-at.at)) (test-true c.is_quiet.ensures c.if-not-is_quiet.false)

@@ -1,6 +1,9 @@
 -- `names::write::put_name` meets its contract: the prefix and the three strings, one after the
--- other. `begun`, `first` and `second` are the places after the prefix, the initial and the peak.
-use Rattle.names.proofs.Rows.{row_inside, spelled}
+-- other.
+use native.Mathlib.Omega.{arith}
+use mathlib.Core.Path.{ap}
+use lib.ListN.{length}
+use Rattle.names.proofs.Lengths.{initial-most, peak-most, final-most}
 use Rattle.names.proofs.Writing.{room-prefix, room-initial, room-peak, room-last, wrote-name}
 use Rattle.names.proofs.write.put_name.Goals as goal
 
@@ -8,27 +11,30 @@ pub put_prefix-after_prefix-requires : goal.put_prefix-after_prefix-requires
 put_prefix-after_prefix-requires c = room-prefix _ _ _ c.requires.last_in_bounds
 
 pub put_part-after_initial-requires : goal.put_part-after_initial-requires
-put_part-after_initial-requires c = let initial = spelled _ c.requires.initial_rows c.requires.inside.0 c.string_at-initial.ensures in record { length_bound = initial.few; room = room-initial _ _ _ c.requires.last_in_bounds c.put_prefix-after_prefix.ensures initial }
+put_part-after_initial-requires c = record {
+  few = omega (arith, ap length c.initial.ensures, initial-most c.args.indices.initial);
+  room = rw c.initial.ensures (room-initial _ _ _ c.requires.last_in_bounds c.put_prefix-after_prefix.ensures);
+}
 
 pub put_part-after_peak-requires : goal.put_part-after_peak-requires
-put_part-after_peak-requires c = let initial = spelled _ c.requires.initial_rows c.requires.inside.0 c.string_at-initial.ensures in
-    let peak = spelled _ c.requires.peak_rows c.requires.inside.1 c.string_at-peak.ensures in record { length_bound = peak.few; room = room-peak _ _ _ c.requires.last_in_bounds c.put_prefix-after_prefix.ensures initial c.put_part-after_initial.ensures peak }
-
-pub string_at-last-requires : goal.string_at-last-requires
-string_at-last-requires c = row_inside _ c.requires.final_rows c.requires.inside.2
+put_part-after_peak-requires c =
+    let initial = rw c.initial.ensures at c.put_part-after_initial.ensures in
+    record {
+      few = omega (arith, ap length c.peak.ensures, peak-most c.args.indices.peak);
+      room = rw c.peak.ensures (room-peak _ _ _ c.requires.last_in_bounds c.put_prefix-after_prefix.ensures initial);
+    }
 
 pub put_part-requires : goal.put_part-requires
-put_part-requires c = let initial = spelled _ c.requires.initial_rows c.requires.inside.0 c.string_at-initial.ensures in
-    let peak = spelled _ c.requires.peak_rows c.requires.inside.1 c.string_at-peak.ensures in
-    let last = spelled _ c.requires.final_rows c.requires.inside.2 c.string_at-last.ensures in record {
-      length_bound = last.few;
-      room = room-last _ _ _ c.requires.last_in_bounds c.put_prefix-after_prefix.ensures initial c.put_part-after_initial.ensures peak
-          c.put_part-after_peak.ensures last;
+put_part-requires c =
+    let initial = rw c.initial.ensures at c.put_part-after_initial.ensures in
+    let peak = rw c.peak.ensures at c.put_part-after_peak.ensures in
+    record {
+      few = omega (arith, ap length c.last.ensures, final-most c.args.indices.last);
+      room = rw c.last.ensures (room-last _ _ _ c.requires.last_in_bounds c.put_prefix-after_prefix.ensures initial peak);
     }
 
 pub returns : goal.returns
-returns c = let initial = spelled _ c.requires.initial_rows c.requires.inside.0 c.string_at-initial.ensures in
-    let peak = spelled _ c.requires.peak_rows c.requires.inside.1 c.string_at-peak.ensures in
-    let last = spelled _ c.requires.final_rows c.requires.inside.2 c.string_at-last.ensures in
-    wrote-name _ _ _ c.requires.last_in_bounds c.put_prefix-after_prefix.ensures initial c.put_part-after_initial.ensures peak
-    c.put_part-after_peak.ensures last c.put_part.ensures
+returns c =
+    let initial = rw c.initial.ensures at c.put_part-after_initial.ensures in
+    let peak = rw c.peak.ensures at c.put_part-after_peak.ensures in
+    wrote-name _ _ _ c.requires.last_in_bounds c.put_prefix-after_prefix.ensures initial peak (rw c.last.ensures at c.put_part.ensures)

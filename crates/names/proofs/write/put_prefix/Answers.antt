@@ -1,27 +1,23 @@
-use mathlib.Core.Path.{refl}
+-- `names::write::put_prefix` meets its contract: the prefix is copied to the front.
+use mathlib.Core.Path.{refl, sym}
 use native.Mathlib.Omega.{arith}
-use Rattle.laws.proofs.Filling.{wrote_none, wrote-length}
+use lib.Seq.{length-take-le}
+use Rattle.std.proofs.lemmas.List.Edits.{sets-eq}
 use Rattle.names.specs.Names.{prefix}
-use Rattle.names.proofs.Writing.{wrote-next, wrote-text}
 use Rattle.names.proofs.write.put_prefix.Goals as goal
 
-pub loop-at-init : goal.loop-at-init
-loop-at-init c = (omega arith, wrote_none refl)
-
-pub bounds-out-at : goal.bounds-out-at
+pub slice_bounds-copy_from_slice-end : goal.slice_bounds-copy_from_slice-end
 unfolding prefix
-bounds-out-at c = omega (arith, c.loop-at-test.true, wrote-length c.loop-at.invariant.1, c.requires.fits)
+slice_bounds-copy_from_slice-end c = omega (arith, c.requires.fits)
 
-pub loop-at-smaller : goal.loop-at-smaller
-loop-at-smaller c = omega (arith, c.loop-at-test.true)
-
-pub loop-at-preserved : goal.loop-at-preserved
+pub slice_bounds-copy_from_slice-end-2 : goal.slice_bounds-copy_from_slice-end-2
 unfolding prefix
-loop-at-preserved c = (omega (arith, c.loop-at-test.true), wrote-next prefix _ c.loop-at-test.true c.loop-at.invariant.1)
+slice_bounds-copy_from_slice-end-2 c = sym (length-take-le 16 c.args.out.now (omega (arith, c.requires.fits)))
 
-pub shape_of-out : goal.shape_of-out
-shape_of-out c = wrote-length c.loop-at.invariant.1
+pub copy_from_slice-requires : goal.copy_from_slice-requires
+unfolding prefix
+copy_from_slice-requires c = length-take-le 16 c.args.out.now (omega (arith, c.requires.fits))
 
 pub returns : goal.returns
 unfolding prefix
-returns c = wrote-text prefix _ c.loop-at-test.false c.loop-at.invariant.1
+returns c = record { after = refl; holds = rw c.copy_from_slice.ensures.after (sym (sets-eq prefix c.args.out.now 0 c.requires.fits)) }

@@ -5,10 +5,10 @@ use Rattle.pulphopper.proofs.Replies.{mends-done, mends-few, mends-refused}
 use Rattle.pulphopper.proofs.calls.pulphopper_mend.Goals as goal
 
 pub counted-requires : goal.counted-requires
-counted-requires c = mends-few _ _ c.mend-answer.ensures encodes8 c.in-Done.is
+counted-requires c = mends-few _ _ c.mend.ensures encodes8 c.in-Ok.is
 
-pub returns-in-Done : goal.returns-in-Done
-returns-in-Done c = mends-done _ _ c.mend-answer.ensures c.in-Done.is c.counted.ensures
+pub returns-in-Ok : goal.returns-in-Ok
+returns-in-Ok c = mends-done _ _ c.mend.ensures c.in-Ok.is c.counted.ensures
 
-pub returns-in-Refused : goal.returns-in-Refused
-returns-in-Refused c = mends-refused _ _ c.mend-answer.ensures c.in-Refused.is c.refused.ensures
+pub returns-in-Err : goal.returns-in-Err
+returns-in-Err c = mends-refused _ _ c.mend.ensures c.in-Err.is c.refused.ensures

@@ -3,8 +3,8 @@
 use Rattle.pulphopper.proofs.Replies.{names-done, names-refused}
 use Rattle.pulphopper.proofs.calls.pulphopper_name.Goals as goal
 
-pub returns-in-Done : goal.returns-in-Done
-returns-in-Done c = names-done _ _ c.name-answer.ensures c.in-Done.is
+pub returns-in-Ok : goal.returns-in-Ok
+returns-in-Ok c = names-done _ _ c.name.ensures c.in-Ok.is
 
-pub returns-in-Refused : goal.returns-in-Refused
-returns-in-Refused c = names-refused _ _ c.name-answer.ensures c.in-Refused.is c.refused.ensures
+pub returns-in-Err : goal.returns-in-Err
+returns-in-Err c = names-refused _ _ c.name.ensures c.in-Err.is c.refused.ensures

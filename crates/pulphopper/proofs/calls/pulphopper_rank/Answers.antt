@@ -3,8 +3,8 @@
 use Rattle.pulphopper.proofs.Replies.{ranks-done, ranks-refused}
 use Rattle.pulphopper.proofs.calls.pulphopper_rank.Goals as goal
 
-pub returns-in-Stands : goal.returns-in-Stands
-returns-in-Stands c = ranks-done _ _ c.rank_bytes-answer.ensures c.in-Stands.is c.number_of.ensures
+pub returns-in-Ok : goal.returns-in-Ok
+returns-in-Ok c = ranks-done _ _ c.rank_bytes.ensures c.in-Ok.is c.number_of.ensures
 
-pub returns-in-Refused : goal.returns-in-Refused
-returns-in-Refused c = ranks-refused _ _ c.rank_bytes-answer.ensures c.in-Refused.is c.refused.ensures
+pub returns-in-Err : goal.returns-in-Err
+returns-in-Err c = ranks-refused _ _ c.rank_bytes.ensures c.in-Err.is c.refused.ensures

@@ -3,8 +3,8 @@
 use Rattle.pulphopper.proofs.Replies.{reads-done, reads-refused}
 use Rattle.pulphopper.proofs.calls.pulphopper_read_name.Goals as goal
 
-pub returns-in-Syllable : goal.returns-in-Syllable
-returns-in-Syllable c = reads-done _ c.read_name-answer.ensures c.in-Syllable.is
+pub returns-in-Ok : goal.returns-in-Ok
+returns-in-Ok c = reads-done _ c.read_name.ensures c.in-Ok.is
 
-pub returns-in-Refused : goal.returns-in-Refused
-returns-in-Refused c = reads-refused _ c.read_name-answer.ensures c.in-Refused.is c.refused.ensures
+pub returns-in-Err : goal.returns-in-Err
+returns-in-Err c = reads-refused _ c.read_name.ensures c.in-Err.is c.refused.ensures

@@ -7,8 +7,8 @@ use Rattle.ranking.proofs.bytes.is_plain.Goals as goal
 pub returns-in-0-to-47 : goal.returns-in-0-to-47
 returns-in-0-to-47 c = sym (plain-below _ (omega arith))
 
-pub returns-in-58-to-127 : goal.returns-in-58-to-127
-returns-in-58-to-127 c = sym (plain-above _ (omega arith) (omega arith))
+pub returns-in-0-to-47-2 : goal.returns-in-0-to-47-2
+returns-in-0-to-47-2 c = sym (plain-above _ (omega arith) (omega arith))
 
 pub returns-in_default : goal.returns-in_default
 returns-in_default c = sym (plain-digit _ (omega arith) (omega arith))

@@ -3,11 +3,11 @@
 use Rattle.ranking.proofs.Steps.{ended-before, ended-equal, ended-after}
 use Rattle.ranking.proofs.compare.ended.Goals as goal
 
-pub returns-in-Before : goal.returns-in-Before
-returns-in-Before c = ended-before c.requires.closed c.requires.closed_2 c.in-Before.is c.done.ensures
+pub returns-in-Less : goal.returns-in-Less
+returns-in-Less c = ended-before c.requires.closed c.requires.closed_2 c.in-Less.is c.done.ensures
 
 pub returns-in-Equal : goal.returns-in-Equal
 returns-in-Equal c = ended-equal c.requires.closed c.requires.closed_2 c.in-Equal.is c.apart.ensures
 
-pub returns-in-After : goal.returns-in-After
-returns-in-After c = ended-after c.requires.closed c.requires.closed_2 c.in-After.is c.done-in-After.ensures
+pub returns-in-Greater : goal.returns-in-Greater
+returns-in-Greater c = ended-after c.requires.closed c.requires.closed_2 c.in-Greater.is c.done-in-Greater.ensures

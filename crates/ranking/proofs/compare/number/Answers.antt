@@ -10,7 +10,7 @@ ended-requires c = record { closed = closed-tags c.args.first c.in_default.not-D
 
 pub returns-in-Digit-second : goal.returns-in-Digit-second
 returns-in-Digit-second c = moves c.in-Digit.is c.in-Digit-second.is refl
-    (number_more _ _ _ c.compared.ensures c.followed.ensures refl)
+    (number_more _ _ _ c.compared.ensures c.followed.ensures c.both.ensures)
 
 pub returns-in_default-second : goal.returns-in_default-second
 returns-in_default-second c = moves c.in-Digit.is refl c.done.ensures

@@ -3,10 +3,10 @@
 use Rattle.sorting.proofs.Standing.{labels-rank, labels-refused}
 use Rattle.sorting.proofs.compare.by_label.Goals as goal
 
-pub returns-in-Stands : goal.returns-in-Stands
-returns-in-Stands c = labels-rank _ _ _ c.label_at.ensures c.label_at-2.ensures
-    c.rank_bytes-ranked.ensures c.in-Stands.is
+pub returns-in-Ok : goal.returns-in-Ok
+returns-in-Ok c = labels-rank _ _ _ c.label_at.ensures c.label_at-2.ensures
+    c.rank_bytes-ranked.ensures c.in-Ok.is
 
-pub returns-in-Refused : goal.returns-in-Refused
-returns-in-Refused c = absurd (labels-refused _ _ _ c.label_at.ensures c.label_at-2.ensures
-    c.rank_bytes-ranked.ensures c.in-Refused.is)
+pub returns-in-Err : goal.returns-in-Err
+returns-in-Err c = absurd (labels-refused _ _ _ c.label_at.ensures c.label_at-2.ensures
+    c.rank_bytes-ranked.ensures c.in-Err.is)

@@ -1,25 +1,21 @@
-use Rattle.sorting.proofs.NumberLines.{u32-line, line-piece, line-end}
-use Rattle.laws.proofs.Filling.{counting-none, counting_more, counting-all}
 use native.Mathlib.Omega.{arith}
-use borrow.Author.Rules.{rules}
+use Rattle.laws.proofs.Filling.{counting-none, counting_more, counting-all}
+use Rattle.sorting.proofs.NumberLines.{u32-line, line-piece, line-end}
 use Rattle.sorting.proofs.lines.lines_count.Goals as goal
 
-pub loop-read-init : goal.loop-read-init
-loop-read-init c = (search rules, search rules, counting-none _)
+pub loop-number-init : goal.loop-number-init
+loop-number-init c = (omega arith, counting-none _)
 
 pub overflow_add-size : goal.overflow_add-size
-overflow_add-size c = let word = c.shared_slice_known-in-loop-read-1.given c.loop-read.read in
-    omega (arith, c.requires.count_bound, c.loop-read.invariant.1, u32-line c.line_size-size.ensures (omega (arith, word)))
+overflow_add-size c = let word = c.type_inv.numbers c.loop-number.number-index in
+    omega (arith, c.requires, c.loop-number.invariant.0, c.loop-number-test.true, u32-line c.line_size-size.ensures (omega (arith, word)))
 
-pub loop-read-preserved : goal.loop-read-preserved
-loop-read-preserved c = (
-  search rules,
-  let word = c.shared_slice_known-in-loop-read-1.given c.loop-read.read in
-      omega (arith, c.loop-read.invariant.1, u32-line c.line_size-size.ensures (omega (arith, word))),
-  counting_more c.loop-read.invariant.2
-      (line-piece _ _ c.requires.count_in_bounds _ c.loop-read-test.true)
-      c.line_size-size.ensures,
+pub loop-number-preserved : goal.loop-number-preserved
+loop-number-preserved c = (
+  let word = c.type_inv.numbers c.loop-number.number-index in
+      omega (arith, c.loop-number.invariant.0, u32-line c.line_size-size.ensures (omega (arith, word))),
+  counting_more c.loop-number.invariant.1 (line-piece c.args.numbers.now c.loop-number.number-index (omega (arith, c.loop-number-test.true))) c.line_size-size.ensures,
 )
 
 pub returns : goal.returns
-returns c = counting-all c.loop-read.invariant.2 (line-end _ _ c.requires.count_in_bounds _ c.loop-read-test.false)
+returns c = counting-all c.loop-number.invariant.1 (line-end c.args.numbers.now c.loop-number.number-index (omega (arith, c.loop-number-test.false)))

@@ -1,35 +1,39 @@
 -- `sorting::lines::print` meets its contract: the order is refused, or its lines have no room, or
 -- they are written.
+use mathlib.Core.Path.{sym}
 use native.Mathlib.Omega.{arith}
-use Rattle.answers.proofs.Checks.{lacking-room}
-use Rattle.sorting.proofs.Printed.{numbers-inside, numbers-short, numbers-most, prints-refused, prints-bad, prints-lacking, prints-done}
+use lib.Seq.{length-take-le}
+use Rattle.std.proofs.lemmas.Result.{err_from_is_err_and}
+use Rattle.answers.proofs.Checks.{no-room-kept}
+use Rattle.sorting.proofs.Printed.{numbers-inside, numbers-short, numbers-most, prints-refused, prints-lacking, prints-done}
 use Rattle.sorting.proofs.Sorted.{order-right, order-length}
 use Rattle.sorting.proofs.lines.print.Goals as goal
 
-pub lines_lacking-needed-requires : goal.lines_lacking-needed-requires
-lines_lacking-needed-requires c = let ordered = c.order-judged.ensures in
-    let found = c.in-Records.is in record { count_in_bounds = numbers-inside _ (order-length _) (omega arith) ordered found; count_bound = numbers-most _ (order-length _) (omega arith) ordered found; numbers_len_bound = numbers-short _ (order-length _) (omega arith) ordered found (order-right _) }
+pub slice_bounds-numbers-end : goal.slice_bounds-numbers-end
+slice_bounds-numbers-end c = numbers-inside _ (order-length _) (omega arith) c.order.ensures c.in_ok-count.was
 
-pub returns-then-needed-ne0 : goal.returns-then-needed-ne0
-returns-then-needed-ne0 c = prints-lacking _ (order-length _) (omega arith) c.order-judged.ensures
-    c.in-Records.is _ c.lines_lacking-needed.ensures c.if-needed-ne0.true
+pub slice_bounds-sorted-end : goal.slice_bounds-sorted-end
+slice_bounds-sorted-end c = sym (length-take-le _ _ (numbers-inside _ (order-length _) (omega arith) c.order.ensures c.in_ok-count.was))
+
+pub check_lines_room-requires : goal.check_lines_room-requires
+check_lines_room-requires c = let ordered = c.order.ensures in
+    let found = c.in_ok-count.was in
+    let inside = numbers-inside _ (order-length _) (omega arith) ordered found in
+    record { count_bound = omega (arith, length-take-le _ _ inside, numbers-most _ (order-length _) (omega arith) ordered found); size_bound = numbers-short _ (order-length _) (omega arith) ordered found (order-right _) }
 
 pub put_lines-requires : goal.put_lines-requires
-put_lines-requires c = record {
-  count_in_bounds = numbers-inside _ (order-length _) (omega arith) c.order-judged.ensures
-      c.in-Records.is;
-  numbers_in_bounds = lacking-room _ _ c.lines_lacking-needed.ensures c.if-needed-ne0.false;
-}
+put_lines-requires c = no-room-kept _ _ (sym c.in_ok-check_lines_room.ensures)
 
-pub returns-else-needed-ne0 : goal.returns-else-needed-ne0
-returns-else-needed-ne0 c = prints-done _ (order-length _) (omega arith)
-    c.order-judged.ensures
-    c.in-Records.is _
-    c.lines_lacking-needed.ensures c.if-needed-ne0.false
-    c.put_lines.ensures
+pub returns-in_err-count : goal.returns-in_err-count
+returns-in_err-count c =
+    let p = err_from_is_err_and c.from_residual.result c.from_residual.ensures.1 in
+    rw (p.1, p.2) (prints-refused _ (order-length _) (omega arith) c.order.ensures _ c.in_err-count.was _)
 
-pub returns-in-Refused : goal.returns-in-Refused
-returns-in-Refused c = prints-refused _ (order-length _) (omega arith) c.order-judged.ensures c.in-Refused.is _
+pub returns-in_err-check_lines_room : goal.returns-in_err-check_lines_room
+returns-in_err-check_lines_room c =
+    let p = err_from_is_err_and c.from_residual-in_err-check_lines_room.result c.from_residual-in_err-check_lines_room.ensures.1 in
+    rw (p.1, p.2) (prints-lacking _ (order-length _) (omega arith) c.order.ensures c.in_ok-count.was _ c.check_lines_room.ensures c.in_err-check_lines_room.was)
 
-pub returns-in-BadRecord : goal.returns-in-BadRecord
-returns-in-BadRecord c = prints-bad _ (order-length _) (omega arith) c.order-judged.ensures c.in-BadRecord.is _
+pub returns : goal.returns
+returns c = prints-done _ (order-length _) (omega arith) c.order.ensures c.in_ok-count.was _
+    c.check_lines_room.ensures c.in_ok-check_lines_room.was c.put_lines.ensures

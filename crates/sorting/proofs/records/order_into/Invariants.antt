@@ -2,12 +2,8 @@
 -- order, and the rest of the buffer is as it was.
 use Rattle.sorting.specs.Sorting.{standing, sorted_by}
 use Rattle.laws.specs.Writing.{front}
-use Prim.Native.Nat.{◌≤◌, ◌-◌}
 use mathlib.Core.Path.{◌≡◌}
 use Rattle.sorting.proofs.records.order_into.Given as goal
 
 abbrev pub invariant-loop-number : goal.invariant-loop-number
-invariant-loop-number l = (l.number ≤ l.count) × (l.out ≡ front (sorted_by (standing l.image) l.number) l.initial.out)
-
-abbrev pub decreases-loop-number : goal.decreases-loop-number
-decreases-loop-number l = l.count - l.number
+invariant-loop-number l = l.out ≡ front (sorted_by (standing l.image) l.number) l.initial.out

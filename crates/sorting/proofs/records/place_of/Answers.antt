@@ -1,18 +1,14 @@
-use Rattle.sorting.proofs.Placing.{between-all, between_none}
+-- `sorting::records::place_of` meets its contract: sorted numbers are parted by whether they stand
+-- before the record, and the place is where they part.
 use borrow.Author.Rules.{rules}
+use Rattle.std.proofs.lemmas.List.Sorted.{IsPartitionPoint-from_clause}
+use Rattle.sorting.specs.Sorting.{standing, is_before}
+use Rattle.sorting.proofs.Placing.{numbers-parted, place-parted}
 use Rattle.sorting.proofs.records.place_of.Goals as goal
 
-pub loop-span-init : goal.loop-span-init
-loop-span-init c = between-all c.requires _
-
-pub halved-span-requires : goal.halved-span-requires
-halved-span-requires c = record { searchable = c.requires; between = c.loop-span.invariant; low_lt_high = search rules }
-
-pub loop-span-smaller : goal.loop-span-smaller
-loop-span-smaller c = c.halved-span.ensures.less
-
-pub loop-span-preserved : goal.loop-span-preserved
-loop-span-preserved c = c.halved-span.ensures.between
-
 pub returns : goal.returns
-returns c = between_none c.requires c.loop-span.invariant (search rules)
+returns c =
+    let parted = numbers-parted c.args.image.now c.args.numbers.now c.args.number c.requires in
+    let point =
+    IsPartitionPoint-from_clause (λ i. is_before (standing c.args.image.now i c.args.number)) _ _ c.partition_point.ensures.partitioned parted (λ a r q k. search rules) in
+    place-parted _ _ _ c.requires c.partition_point.ensures.bound point

@@ -7,9 +7,10 @@ use Rattle.utf8.specs.Utf8.{form8}
 use Rattle.utf8.specs.Table37.{table37}
 use Rattle.utf8.proofs.Rows.{row-over}
 use Rattle.utf8.proofs.decode.read_at.Goals as goal
+use Rattle.utf8.proofs.decode.read_at.Goals.{in_default-via-then-first-lt194, in_default-via-else-first-lt194+else-first-lt224+else-first-lt237+else-first-lt240+else-first-lt244}
 
 pub returns-then-text-at : goal.returns-then-text-at
-returns-then-text-at c = end-taken form8 _ _ c.if-text-at.true refl
+returns-then-text-at c = end-taken form8 _ _ c.if-text-at.true c.good.ensures
 
 pub overflow_cast-first : goal.overflow_cast-first
 overflow_cast-first c = omega (arith, c.shared_slice_known-2-1.given c.args.at)
@@ -63,7 +64,7 @@ returns-in-244 c = c.read_four-in-244.ensures
 
 pub returns-in-0-to-127 : goal.returns-in-0-to-127
 returns-in-0-to-127 c = one-taken form8 _ _ c.if-text-at.false refl
-    (row-full table37 _ (row-between table37 0x00 0x7F tt (omega arith) (omega arith))) refl
+    (row-full table37 _ (row-between table37 0x00 0x7F tt (omega arith) (omega arith))) c.good-in-0-to-127.ensures
 
 pub returns-in-194-to-223 : goal.returns-in-194-to-223
 returns-in-194-to-223 c = c.read_two.ensures
@@ -78,9 +79,10 @@ pub returns-in-241-to-243 : goal.returns-in-241-to-243
 returns-in-241-to-243 c = c.read_four-in-241-to-243.ensures
 
 pub returns-in_default : goal.returns-in_default
-returns-in_default c = none-taken form8 _ _ c.if-text-at.false refl
-    (row-bad table37 _ (row-between table37 0x80 0xC1 tt (omega arith) (omega arith))) refl
-
-pub returns-in_default-2 : goal.returns-in_default-2
-returns-in_default-2 c = none-taken form8 _ _ c.if-text-at.false refl
-    (row-bad table37 _ (row-over (omega arith))) refl
+returns-in_default c =
+    elim c.in_default.branch [
+      | in_default-via-then-first-lt194 w ↦
+          none-taken form8 _ _ c.if-text-at.false refl (row-bad table37 _ (row-between table37 0x80 0xC1 tt (omega arith) (omega arith))) c.ill.ensures
+      | in_default-via-else-first-lt194+else-first-lt224+else-first-lt237+else-first-lt240+else-first-lt244 w ↦
+          none-taken form8 _ _ c.if-text-at.false refl (row-bad table37 _ (row-over (omega arith))) c.ill.ensures
+    ]

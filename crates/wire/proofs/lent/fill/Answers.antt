@@ -1,13 +1,8 @@
-use mathlib.Core.Path.{sym}
-use lib.ListN.{length-replicate, get_or-replicate}
-use Rattle.wire.proofs.Filling.{overwriting-none, overwriting-next, overwriting-all}
+use mathlib.Core.Path.{sym, ◌∙◌}
+use lib.ListN.{get_or-replicate}
+use Rattle.wire.proofs.Filling.{overwriting-next}
 use Rattle.wire.proofs.lent.fill.Goals as goal
 
-pub loop-i-init : goal.loop-i-init
-loop-i-init c = overwriting-none _ _ (length-replicate _ _)
-
-pub loop-i-preserved : goal.loop-i-preserved
-loop-i-preserved c = overwriting-next 0 c.loop-i.invariant c.loop-i-test.true (λ h. sym (get_or-replicate _ _ _ 0 h))
-
-pub returns : goal.returns
-returns c = overwriting-all c.loop-i.invariant c.loop-i-test.false
+pub loop-element-preserved : goal.loop-element-preserved
+loop-element-preserved g c =
+    overwriting-next c.FILL.result c.loop-element.invariant c.loop-element-test.true (c.FILL.ensures ∙ sym (get_or-replicate _ _ _ _ c.loop-element-test.true))

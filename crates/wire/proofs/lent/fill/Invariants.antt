@@ -1,11 +1,7 @@
 -- `wire::lent::fill` meets its contract. In turn i the elements before i are filled.
-use Prim.Native.Nat.{◌-◌}
 use lib.ListN.{length, replicate}
 use Rattle.wire.proofs.Filling.{Overwriting}
 use Rattle.wire.proofs.lent.fill.Given as goal
 
-abbrev pub invariant-loop-i : goal.invariant-loop-i
-invariant-loop-i l = Overwriting (replicate (length l.initial.out) 0xA5A5A5A5) l.initial.out l.out l.i
-
-abbrev pub decreases-loop-i : goal.decreases-loop-i
-decreases-loop-i l = length l.initial.out - l.i
+abbrev pub invariant-loop-element : goal.invariant-loop-element
+invariant-loop-element g l = Overwriting (replicate (length l.initial.out) g.T.Lent.FILL) l.initial.out l.out l.element-index

@@ -7,4 +7,4 @@ pub returns-then-bytes-index : goal.returns-then-bytes-index
 returns-then-bytes-index c = sym (number-none _ _ c.if-bytes-index.true)
 
 pub returns : goal.returns
-returns c = number-some _ _ c.if-bytes-index.false c.pair-low.ensures.value c.pair.ensures.value
+returns c = number-some _ _ c.if-bytes-index.false c.from_le_bytes.ensures

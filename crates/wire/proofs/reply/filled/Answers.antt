@@ -3,9 +3,9 @@ use mathlib.Core.Path.{sym, ap, ◌∙◌}
 use Rattle.wire.specs.Messages.{short, filled_reply}
 use Rattle.wire.proofs.reply.filled.Goals as goal
 
-pub returns-in-Done : goal.returns-in-Done
+pub returns-in-Ok : goal.returns-in-Ok
 unfolding short
-returns-in-Done c = c.counted.ensures ∙ sym (ap filled_reply c.in-Done.is)
+returns-in-Ok c = c.counted.ensures ∙ sym (ap filled_reply c.in-Ok.is)
 
-pub returns-in-Refused : goal.returns-in-Refused
-returns-in-Refused c = c.refused.ensures ∙ sym (ap filled_reply c.in-Refused.is)
+pub returns-in-Err : goal.returns-in-Err
+returns-in-Err c = c.refused.ensures ∙ sym (ap filled_reply c.in-Err.is)

@@ -1,8 +1,0 @@
--- `clusters::gathered::put_code` meets its contract: a step of the joiner is written.
-use Rattle.clusters.proofs.Writing.{room-code, joined-code}
-use Rattle.laws.proofs.Filling.{wrote-all}
-use Rattle.clusters.proofs.gathered.put_code.Goals as goal
-
-pub returns : goal.returns
-returns c = let step = c.step-step.ensures in
-    joined-code c.args.writer _ step (wrote-all (room-code c.args.writer _ step c.requires) c.put.ensures)
