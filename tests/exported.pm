@@ -1,6 +1,6 @@
 # What tests/promises and tests/premises both read: the functions that the libraries export, each
-# with its contract in the words of a statement, and which file each word of a text is brought in
-# from; and the functions that a static library gives to C.
+# with its contract in the words of a statement, also where it holds in any encoding form, and which
+# file each word of a text is brought in from; and the functions that a static library gives to C.
 package exported;
 use strict;
 use warnings;
@@ -28,7 +28,7 @@ my $braced = qr/\{((?:[^{}]++|(?<inner>\{(?:[^{}]++|(?&inner))*\}))*)\}/;
 # result), whether C can call it, and what of its clauses is not read; none if it is not there
 sub function {
     my ($source, $name) = @_;
-    my ($before, $public, $given, $head) = $source =~ /^((?:#\[.*\]\n)*)pub ((?:unsafe )?(?:extern "C" )?)fn $name(?:<[^()]*>)?\(([^)]*)\)(.*?)^\{\n/ms or return undef;
+    my ($before, $public, $over, $given, $head) = $source =~ /^((?:#\[.*\]\n)*)pub ((?:unsafe )?(?:extern "C" )?)fn $name(?:<([^()]*)>)?\(([^)]*)\)(.*?)^\{\n/ms or return undef;
     my @parameters = map { [/^\s*(\w+): (.*?)\s*$/s] } grep { /\S/ } split /,\s*(?![^<]*>)/, $given;
     my ($result) = $head =~ /^ -> ([^\n]*?)\s*$/m;
     my @contract;
@@ -40,9 +40,46 @@ sub function {
     push @wrong, "has a requires" if $head =~ /\brequires\b/;
     return {
         name => $name, parameters => \@parameters, result => $result, lent => [map { $_->[0] } grep { $_->[1] =~ /^&mut / } @parameters],
-        contract => \@contract, origin => origins($source), wrong => \@wrong,
+        contract => \@contract, origin => origins($source), wrong => \@wrong, over => $over // "",
         for_c => $public =~ /^extern "C" $/ && $before =~ /^#\[unsafe\(no_mangle\)\]$/m,
     };
+}
+
+# the ghosts of a trait that a source of a crate brings in, by name, each with its type; and which
+# file each word of these types is brought in from
+sub ghosts {
+    my ($crate, $source, $trait) = @_;
+    my $brought = qr/(?:$trait|\{(?:[^}]*\W)?$trait(?:\W[^}]*)?\});/;
+    my ($from, $module) = $source =~ /^use (\w+)::(?:(\w+)::)?$brought/m or return ({}, {});
+    if ($from eq "crate") { $from = $crate } elsif (!defined $module and -f "crates/$from/src/lib.rt") { ($module) = text("crates/$from/src/lib.rt") =~ /^pub use (\w+)::$brought/m }
+    return ({}, {}) if !defined $module or !-f "crates/$from/src/$module.rt";
+    my $file = text("crates/$from/src/$module.rt");
+    my ($body) = $file =~ /^pub trait $trait \{\n(.*?)^\}\n/ms or return ({}, {});
+    return ({ $body =~ /^    ghost (\w+): \{ (.*) \};$/mg }, origins($file));
+}
+
+# A function over any E of a trait that has a ghost `form` and a ghost `numbers`: its contract
+# speaks of an encoding form, E.form, and of texts and buffers of units by their numbers,
+# (E.numbers X). In a statement the form is f, and X is the numbers. Puts the contract into these
+# words, and the type of f, by the file that it is brought in from, into {form}. A contract that
+# speaks of units in another way, or of something else that E has, has no such words, and stays as
+# it is. So does that of a function over anything else.
+sub in_any_form {
+    my ($crate, $source, $f) = @_;
+    my ($any, $trait) = $f->{over} =~ /^(\w+): (\w+)$/ or return;
+    my ($ghosts, $origin) = ghosts($crate, $source, $trait);
+    return if !$ghosts->{form} or ($ghosts->{numbers} // "") ne "List Self.Unit → List ℕ";
+    my %is_units = map { $_->[0] => scalar($_->[1] =~ /\b${any}::Unit\b/) } @{ $f->{parameters} };
+    my @in_words;
+    for my $clause (@{ $f->{contract} }) {
+        # the words that are put in stand between marks, until it is seen what stands beside them
+        my $marked = $clause =~ s/\($any\.numbers (\w+)('?)\)/$is_units{$1} ? "\x01$1$2\x02" : $&/ger =~ s/(?<![\w.])$any\.form(?![\w.'])/\x01f\x02/gr;
+        my $beside = $marked =~ s/\x01\w+'?\x02//gr;
+        return if grep { $_ eq $any or $_ eq "f" or $is_units{ s/'$//r } } split /[\s().,]+/, $beside;
+        push @in_words, $marked =~ s/[\x01\x02]//gr;
+    }
+    $f->{contract} = \@in_words;
+    $f->{form} = $origin->{ $ghosts->{form} } // $ghosts->{form};
 }
 
 # the static libraries of crates.txt, which C alone calls: of each the crates that it names
@@ -67,6 +104,7 @@ sub functions {
                 my $f = function(text("crates/$crate/src/$module.rt"), $name);
                 if (!defined $f) { push @wrong, "$path is not in crates/$crate/src/$module.rt"; next }
                 push @wrong, map { "$path $_" } @{ $f->{wrong} };
+                in_any_form($crate, text("crates/$crate/src/$module.rt"), $f);
                 $functions{$path} = { %$f, crate => $crate, module => $module };
             }
         }

@@ -17,13 +17,17 @@ pub fn is_bad(code: u32) -> bool
     }
 }
 
-// The index of the first bad code point, or the text's length if there is none.
+// The index of the first bad code point, or the text's length if there is none. By index: so the
+// compiler tests four code points at once where it can, and by `position` it tests one.
 pub fn first_bad(text: &[u32]) -> usize
     ensures { result ≡ first_bad text.now }
 {
-    text.iter()
-        .position(|code| is_bad(*code))
-        .unwrap_or(text.len())
+    for i in 0..text.len() {
+        if is_bad(text[i]) {
+            return i;
+        }
+    }
+    text.len()
 }
 
 // The most code points, bytes or 16-bit units that a call takes.

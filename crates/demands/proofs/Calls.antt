@@ -19,6 +19,7 @@ use Rattle.answers.specs.Answers.{Makes}
 use Rattle.answers.specs.declared.refusal.Refusal.{Refusal}
 use Rattle.letters.specs.Syllables.{is_syllable, full_parts}
 use Rattle.joining.specs.Joining.{join as joins}
+use Rattle.encodings.specs.Forms.{write_in}
 use Rattle.encodings.specs.Reading.{ReadsIn}
 use Rattle.utf8.specs.Utf8.{read_text, write_text}
 use Rattle.utf8.specs.Reading.{Reads}
@@ -146,6 +147,9 @@ pub check-units : rows.CheckUnits
 unfolding takes_units
 check-units units r e = answered-one (ap rows.as_verdict e ∙ as-verdict (takes_units units))
 
+pub check-room : rows.CheckRoom
+check-room room needed r e = answered-one (ap rows.as_verdict e ∙ as-verdict (no_room room needed))
+
 -- ---- letters
 
 pub sorter : rows.Sorter
@@ -175,6 +179,15 @@ full-parts = of-text full_parts
 
 pub join : rows.Join
 join = of-text joins
+
+-- ---- encodings
+
+pub read-in : rows.ReadIn
+unfolding takes_units
+read-in f text out out' r h = filled-alone h.fills
+
+pub write-in : rows.WriteIn
+write-in f = of-text (write_in f)
 
 -- ---- utf8
 

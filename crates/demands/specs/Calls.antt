@@ -1,4 +1,4 @@
--- Demand 1, at each of the 31 calls that check something: a row for each, with the name of the
+-- Demand 1, at each of the 34 calls that check something: a row for each, with the name of the
 -- call, what it is given, what its contract says of its result, and `Demand1` with its checks in
 -- document 01's order. The contract of a row is that of the code, word for word (tests/premises
 -- compares them). A function that checks nothing has no row: its contract, an equation, says all of
@@ -13,6 +13,7 @@ use Rattle.letters.specs.Sorts.{sort_of}
 use Rattle.letters.specs.Syllables.{one_step, full_parts}
 use Rattle.letters.specs.Answers.{stepped}
 use Rattle.joining.specs.Joining.{join}
+use Rattle.encodings.specs.Forms.{Form as TextForm, read_in, write_in}
 use Rattle.encodings.specs.Reading.{counted_in, ReadsIn}
 use Rattle.utf8.specs.Utf8.{read_text, ill_text, write_text}
 use Rattle.utf8.specs.Reading.{counted_of, Reads}
@@ -81,6 +82,12 @@ CheckUnits =
     (units : List ℕ) (r : Result (Unit {0}) Refusal) → checked r ≡ takes_units units
     → Demand1 {A = ℕ} (over_limit 16384 (length units) ∷ []) tt [] [] (as_verdict (checked r)) []
 
+-- `answers::check_room`: 3
+abbrev pub CheckRoom : Type 0
+CheckRoom =
+    (room needed : ℕ) (r : Result (Unit {0}) Refusal) → checked r ≡ no_room room needed
+    → Demand1 {A = ℕ} (no_room room needed ∷ []) tt [] [] (as_verdict (checked r)) []
+
 -- ---- letters
 
 -- `letters::sorter`: 2
@@ -125,6 +132,19 @@ FullParts = (text out out' : List ℕ) (r : Result ℕ Refusal) → Makes full_p
 -- `joining::join`: 1, 2, 3
 abbrev pub Join : Type 0
 Join = (text out out' : List ℕ) (r : Result ℕ Refusal) → Makes join text out r out' → OfText join text out r out'
+
+-- ---- encodings: in any encoding form f; a text of units, and a buffer for them, by their numbers
+
+-- `encodings::read_text`: 1, 3
+abbrev pub ReadIn : Type 0
+ReadIn =
+    (f : TextForm) (text out out' : List ℕ) (r : Result Counted Refusal) → ReadsIn f (read_in f) text out r out'
+    → Demand1 (over_limit 16384 (length text) ∷ no_room (length out) (length (read_in f text)) ∷ []) (counted_in f (read_in f) text)
+    out (front (read_in f text) out) (answered r) out'
+
+-- `encodings::write_text`: 1, 2, 3
+abbrev pub WriteIn : Type 0
+WriteIn = (f : TextForm) (text out out' : List ℕ) (r : Result ℕ Refusal) → Makes (write_in f) text out r out' → OfText (write_in f) text out r out'
 
 -- ---- utf8
 

@@ -1,16 +1,36 @@
 -- What the functions inside this crate ask and promise. The calls' contracts stand in specs/Naming.
-use Rattle.std.specs.Prelude.{◌≡◌, Bool, false, ◌&&◌, ◌||◌, List, [], ◌∷◌, ◌++◌, ℕ, ◌%◌, ◌<◌, eqb, length, get_or, take, drop, Option, Some, None, Result}
+use Rattle.std.specs.Prelude.{◌≡◌, Bool, false, ◌&&◌, ◌||◌, List, [], ◌∷◌, ◌++◌, map, ℕ, ◌+◌, ◌%◌, ◌<◌, eqb, length, get_or, take, drop, Option, Some, None, Result}
 use Rattle.std.specs.Bool.{beq}
-use Rattle.laws.specs.Strings.{begins}
+use Rattle.laws.specs.Strings.{ascii, begins}
 use Rattle.answers.specs.Checks.{passes}
 use Rattle.answers.specs.Verdicts.{Fills}
 use Rattle.answers.specs.Answers.{answered}
 use Rattle.answers.specs.declared.refusal.Refusal.{Refusal}
 use Rattle.letters.specs.Syllables.{initial_of, peak_of, final_of}
-use Rattle.names.specs.Names.{peaks, finals, name_by}
+use Rattle.names.specs.Names.{initials, peaks, finals, name_by}
 use Rattle.names.specs.declared.strings.Indices.{Indices}
 
 -- ---- the tables of strings
+
+-- a string as a row of four bytes: its length as a digit, then the string, filled up with spaces
+abbrev pub four_bytes : List ℕ → List ℕ
+four_bytes string = (0x30 + length string) ∷ take 3 (string ++ ascii "   ")
+
+abbrev pub table_of : List (List ℕ) → List (List ℕ)
+table_of strings = map four_bytes strings
+
+-- a table has just these rows: byte by byte those of the strings, in order
+abbrev pub StringRows : List (List ℕ) → List (List ℕ) → Type 0
+StringRows rows strings = rows ≡ table_of strings
+
+abbrev pub InitialRows : List (List ℕ) → Type 0
+InitialRows rows = StringRows rows initials
+
+abbrev pub PeakRows : List (List ℕ) → Type 0
+PeakRows rows = StringRows rows peaks
+
+abbrev pub FinalRows : List (List ℕ) → Type 0
+FinalRows rows = StringRows rows finals
 
 -- the string of a row of four bytes: a digit, then as many letters
 abbrev pub string_of : List ℕ → List ℕ
@@ -31,7 +51,7 @@ pub record NamesBy (i p f : ℕ) (out : List ℕ) (r : Result ℕ Refusal) (out'
 
 -- ---- reading a name
 
--- what the searches answer: the final that is what is left of a name, the peak and the final, and
+-- what the searches find: the final that is what is left of a name, the peak and the final, and
 -- the three indices of the name; or that no string, no two and no three are it
 abbrev pub FinalIs : List ℕ → Option ℕ → Type 0
 FinalIs rest (Some f) = (f < 28) × (rest ≡ get_or finals f [])

@@ -3,7 +3,7 @@
 ghost use Rattle.std.specs.Prelude.{◌≡◌, ◌≤◌, ◌+◌, ◌*◌, true, false, length, drop, MatchOption};
 ghost use Rattle.laws.specs.Strings.{begins, same};
 ghost use Rattle.names.specs.Naming.{ReadsName};
-ghost use Rattle.names.specs.Inner.{vowel_first, followed, FinalIs, PeakIs, FoundIs, Inside};
+ghost use Rattle.names.specs.Inner.{vowel_first, followed, FoundIs, Inside};
 ghost use Rattle.answers.specs.Checks.{passes, takes_bytes};
 
 use crate::strings::{self, Indices};
@@ -62,54 +62,35 @@ fn after<'a>(rest: &'a [u8], part: &[u8], vowel: bool) -> Option<&'a [u8]>
     (vowel_first(left) == vowel).then_some(left)
 }
 
-// The final whose string is all that is left of a name.
-fn find_last(rest: &[u8]) -> Option<usize>
-    ensures { FinalIs rest.now result }
-{
-    for (last, row) in strings::finals().iter().enumerate() {
-        let string = strings::letters(row);
-        if ends(rest, string) {
-            return Some(last);
-        }
-    }
-    None
-}
-
-// The peak and the final whose strings are what is left of a name. The finals are searched only if
-// the peak's string fits.
-fn find_peak(rest: &[u8]) -> Option<(usize, usize)>
-    ensures { PeakIs rest.now result }
-{
-    for (peak, row) in strings::peaks().iter().enumerate() {
-        let string = strings::letters(row);
-        if let Some(rest) = after(rest, string, false) {
-            if let Some(last) = find_last(rest) {
-                return Some((peak, last));
-            }
-        }
-    }
-    None
-}
-
-// The three indices whose strings are the name. The peaks are searched only if the initial's string
+// The three indices whose strings are the name. An inner table is searched only if the outer string
 // fits, and the search is left as soon as all three fit.
 fn search(name: &[u8]) -> Option<Indices>
     ensures { FoundIs name.now result }
 {
     let rest = name.strip_prefix(b"HANGUL SYLLABLE ")?;
-    for (initial, row) in strings::initials().iter().enumerate() {
-        let string = strings::letters(row);
-        if let Some(rest) = after(rest, string, true) {
-            if let Some((peak, last)) = find_peak(rest) {
-                return Some(Indices {
-                    initial,
-                    peak,
-                    last,
-                });
+    'search: {
+        for (initial, row) in strings::initials().iter().enumerate() {
+            let Some(rest) = after(rest, strings::letters(row), true) else {
+                continue;
+            };
+            for (peak, row) in strings::peaks().iter().enumerate() {
+                let Some(rest) = after(rest, strings::letters(row), false) else {
+                    continue;
+                };
+                for (last, row) in strings::finals().iter().enumerate() {
+                    if ends(rest, strings::letters(row)) {
+                        let found = Indices {
+                            initial,
+                            peak,
+                            last,
+                        };
+                        break 'search Some(found);
+                    }
+                }
             }
         }
+        None
     }
-    None
 }
 
 // The syllable of three indices.

@@ -1,7 +1,7 @@
 // The strings of names in three constant tables (document 01, 'Names').
 ghost use Rattle.std.specs.Prelude.{◌≡◌, ◌≤◌, ◌<◌, [], length, map, slice_index_or};
 ghost use Rattle.names.specs.Names.{initials, peaks, finals};
-ghost use Rattle.names.specs.Inner.{string_of};
+ghost use Rattle.names.specs.Inner.{string_of, InitialRows, PeakRows, FinalRows};
 
 // I, P and F: what a syllable's three strings are picked by.
 #[derive(Clone, Copy, Debug, PartialEq, Eq)]
@@ -37,21 +37,24 @@ static FINALS: [Row; 28] = [
 
 // The strings of the initials.
 pub(crate) fn initials() -> &'static [Row; 19]
-    ensures { map string_of result.now ≡ initials }
+    ensures bytes { InitialRows result.now }
+    ensures strings { map string_of result.now ≡ initials }
 {
     &INITIALS
 }
 
 // The strings of the peaks.
 pub(crate) fn peaks() -> &'static [Row; 21]
-    ensures { map string_of result.now ≡ peaks }
+    ensures bytes { PeakRows result.now }
+    ensures strings { map string_of result.now ≡ peaks }
 {
     &PEAKS
 }
 
 // The strings of the finals.
 pub(crate) fn finals() -> &'static [Row; 28]
-    ensures { map string_of result.now ≡ finals }
+    ensures bytes { FinalRows result.now }
+    ensures strings { map string_of result.now ≡ finals }
 {
     &FINALS
 }

@@ -6,6 +6,7 @@ ghost use Rattle.ranking.specs.Ranking.{by_value, then_by, order_number};
 use std::cmp::Ordering;
 
 // Two numbers, by value.
+#[tactic(auto, unfolding(crate::specs::Ranking::by_value))]
 pub fn compared(first: u32, second: u32) -> Ordering
     ensures { result ≡ by_value first second }
 {

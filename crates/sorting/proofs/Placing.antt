@@ -1,9 +1,10 @@
 -- Where a record is put.
 --
 -- It has: a number whose place is known (`placed_at`), WHAT THE SEARCH FINDS IS THE PLACE
--- (`place_found`); what the search by halves asks of sorted numbers (`numbers-parted`) and what it
--- finds (`place-parted`); moving up the numbers from the place on (`inserted`).
-use mathlib.Core.Path.{◌≡◌, refl, ◌∙◌, ap}
+-- (`place_found`); the search by halves: what it keeps (`Between`), from its beginning
+-- (`between-all`) by either half (`halved-right`, `halved-left`) to its end (`between_none`);
+-- moving up the numbers from the place on (`inserted`).
+use mathlib.Core.Path.{◌≡◌, refl, sym, ◌∙◌, ap}
 use mathlib.Core.Bool.{Bool, true, false}
 use mathlib.Core.List.{List, [], ◌∷◌, ◌++◌, append_assoc}
 use Prim.Native.Nat.{ℕ, zero, suc, ◌+◌, ◌-◌, ◌≤◌, ◌<◌}
@@ -14,8 +15,6 @@ use lib.ListN.{length, get_or, take, drop, set}
 use lib.Seq.{length-take-le, take-suc, drop_at, take-add, take-take, set_at}
 use borrow.Author.Tests.{ltb-true, ltb-false}
 use Rattle.std.specs.List.{copy_within}
-use Rattle.std.specs.List.Sorted.{IsPartitionPoint, IsPartitionedBy}
-use Rattle.std.proofs.lemmas.List.{get_or_default}
 use Rattle.laws.proofs.Bools.{test}
 use Rattle.std.specs.declared.cmp.Ordering.{Ordering}
 use Rattle.std.specs.declared.cmp.Ordering.TheVariants.{Less}
@@ -60,31 +59,59 @@ module _ {image : List ℕ} (numbers : List ℕ) (n : ℕ) {k at : ℕ} (inside 
 
 -- ---- the search by halves
 
--- what the search asks of sorted numbers: none that stands before k comes after one that does not
-module _ (image numbers : List ℕ) (k : ℕ) (sorted : Sorted (standing image) numbers) where
-  abbrev stands_before : ℕ → Bool
-  stands_before i = is_before (standing image i k)
+-- the place of k is not below low, nor above high
+pub record Between (image numbers : List ℕ) (k low high : ℕ) : Type 0 where
+  pub ordered : low ≤ high
+  pub inside : high ≤ length numbers
+  pub below : (i : ℕ) → i < low → standing image (get_or numbers i 0) k ≡ Less
+  pub above : (i : ℕ) → high ≤ i → i < length numbers → standing image (get_or numbers i 0) k ≡ Less → ⊥
 
-  pub numbers-parted : IsPartitionedBy stands_before numbers
-  numbers-parted i j other h q e =
-      test (ltb i j)
-      (λ t.
-      let earlier : standing image (get_or numbers i other) (get_or numbers j other) ≡ Less =
-      rw (get_or_default numbers i other 0 (omega (arith, ltb-true i j t)), get_or_default numbers j other 0 q)
-      (sorted-at (standing-strict image) sorted i j (ltb-true i j t) q) in
-      ap is_before (standing-before image _ _ k earlier (is-before _ e)))
-      (λ t.
-      let same : i ≡ j = omega (arith, ltb-false i j t) in
-      rw same e)
+-- everywhere
+pub between-all : (image numbers : List ℕ) (k : ℕ) → Between image numbers k 0 (length numbers)
+between-all image numbers k = record {
+  ordered = omega arith;
+  inside = omega arith;
+  below = λ i h. absurd (omega arith);
+  above = λ i h q. absurd (omega arith);
+}
 
-  -- and what it finds
-  pub place-parted : {at : ℕ} → at ≤ length numbers → IsPartitionPoint (λ i. stands_before i ≡ true) (λ i. stands_before i ≡ false) numbers at
-      → PlaceFound image numbers k at
-  place-parted inside (below, above) = record {
-    inside = inside;
-    below = λ i h. is-before _ (below i 0 (omega arith) h);
-    above = λ i h q. is-not-before _ (above i 0 h q);
-  }
+module _ {image numbers : List ℕ} {k low high : ℕ} (b : Between image numbers k low high) where
+  pub between_none : high ≤ low → PlaceFound image numbers k low
+  between_none h = record { inside = omega (arith, b.ordered, b.inside); below = b.below; above = λ i q r. b.above i (omega arith) r }
+
+  module _ (sorted : Sorted (standing image) numbers) {middle : ℕ} (from : low ≤ middle) (to : middle < high) {found : Bool}
+      (says : found ≡ is_before (standing image (get_or numbers middle 0) k)) where
+    -- the middle one stands before k, and so do those below it
+    pub halved-right : found ≡ true → Between image numbers k (middle + 1) high
+    halved-right e =
+        let first = is-before (standing image (get_or numbers middle 0) k) (sym says ∙ e) in
+        record { ordered = omega arith; inside = b.inside; below = λ i h. below first i h; above = b.above }
+      where
+        below : standing image (get_or numbers middle 0) k ≡ Less → (i : ℕ) → i < middle + 1 → standing image (get_or numbers i 0) k ≡ Less
+        below first i h =
+            test (ltb i middle)
+            (λ t.
+            standing-before image (get_or numbers i 0) (get_or numbers middle 0) k
+            (sorted-at (standing-strict image) sorted i middle (ltb-true i middle t) (omega (arith, b.inside))) first)
+            (λ t.
+            let same : i ≡ middle = omega (arith, ltb-false i middle t) in
+            rw same first)
+
+    -- it does not, and none above it does
+    pub halved-left : found ≡ false → Between image numbers k low middle
+    halved-left e =
+        let first = is-not-before (standing image (get_or numbers middle 0) k) (sym says ∙ e) in
+        record { ordered = from; inside = omega (arith, b.inside); below = b.below; above = λ i h r q. above first i h r q }
+      where
+        above : (standing image (get_or numbers middle 0) k ≡ Less → ⊥) → (i : ℕ) → middle ≤ i → i < length numbers
+            → standing image (get_or numbers i 0) k ≡ Less → ⊥
+        above first i h r q =
+            test (ltb middle i)
+            (λ t.
+            first (standing-before image (get_or numbers middle 0) (get_or numbers i 0) k (sorted-at (standing-strict image) sorted middle i (ltb-true middle i t) r) q))
+            (λ t.
+            let same : i ≡ middle = omega (arith, ltb-false middle i t) in
+            first (rw same at q))
 
 -- ---- moving up those from the place on
 

@@ -16,7 +16,18 @@ fn place_of(image: &[u8], numbers: &[u32], number: u32) -> usize
     requires { Sorted (standing image.now) numbers.now }
     ensures { PlaceFound image.now numbers.now number result }
 {
-    numbers.partition_point(|other| comes_before(image, *other, number))
+    let mut low = 0;
+    let mut high = numbers.len();
+    // A `while`: `partition_point` ranks once more for a record than docs/DECISIONS.md, 55, says.
+    while low < high {
+        let middle = low + (high - low) / 2;
+        if comes_before(image, numbers[middle], number) {
+            low = middle + 1;
+        } else {
+            high = middle;
+        }
+    }
+    low
 }
 
 // Writes the order to the front of `out`, which has room for it.

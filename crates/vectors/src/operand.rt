@@ -1,7 +1,11 @@
 // Reading operands: numbers in capital hex with single spaces between. A field that is not well
 // formed is found before any number of it is answered.
+ghost use Rattle.std.specs.Prelude.{◌≤◌, ◌<◌, length, IfSome};
+
 // The digit that a byte stands for: capital letters alone, as in every answer.
-fn digit_of(byte: u8) -> Option<u8> {
+fn digit_of(byte: u8) -> Option<u8>
+    ensures { IfSome result (λ digit. digit < 16) }
+{
     match byte {
         b'0'..=b'9' => Some(byte - b'0'),
         b'A'..=b'F' => Some(byte - b'A' + 10),
@@ -44,6 +48,7 @@ fn numbers<'a, T: Copy, F: Fn(&[u8]) -> Option<T>>(
     out: &'a mut [T],
 ) -> Option<&'a [T]>
     requires { F.IsAlwaysCallable read }
+    ensures { IfSome result (λ numbers. length numbers.now ≤ length out.old) }
 {
     let mut count = 0;
     for field in text.split(|byte| *byte == b' ') {
@@ -57,11 +62,15 @@ fn numbers<'a, T: Copy, F: Fn(&[u8]) -> Option<T>>(
 }
 
 // Reads the codes of a text.
-pub(crate) fn codes<'a>(text: &[u8], out: &'a mut [u32]) -> Option<&'a [u32]> {
+pub(crate) fn codes<'a>(text: &[u8], out: &'a mut [u32]) -> Option<&'a [u32]>
+    ensures { IfSome result (λ codes. length codes.now ≤ length out.old) }
+{
     numbers(text, code, out)
 }
 
 // Reads the bytes of a field.
-pub(crate) fn bytes<'a>(field: &[u8], out: &'a mut [u8]) -> Option<&'a [u8]> {
+pub(crate) fn bytes<'a>(field: &[u8], out: &'a mut [u8]) -> Option<&'a [u8]>
+    ensures { IfSome result (λ bytes. length bytes.now ≤ length out.old) }
+{
     numbers(field, byte, out)
 }

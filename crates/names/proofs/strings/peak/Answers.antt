@@ -6,4 +6,4 @@ use Rattle.names.proofs.strings.peak.Goals as goal
 
 pub returns : goal.returns
 unfolding strings
-returns c = c.letters.ensures.string ∙ row_is _ _ c.peaks.ensures _ c.requires
+returns c = c.letters.ensures.string ∙ row_is _ _ c.peaks.ensures.strings _ c.requires

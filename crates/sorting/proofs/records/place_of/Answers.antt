@@ -1,14 +1,15 @@
--- `sorting::records::place_of` meets its contract: sorted numbers are parted by whether they stand
--- before the record, and the place is where they part.
-use borrow.Author.Rules.{rules}
-use Rattle.std.proofs.lemmas.List.Sorted.{IsPartitionPoint-from_clause}
-use Rattle.sorting.specs.Sorting.{standing, is_before}
-use Rattle.sorting.proofs.Placing.{numbers-parted, place-parted}
+use native.Mathlib.Omega.{arith}
+use Rattle.sorting.proofs.Placing.{between-all, between_none, halved-right, halved-left}
 use Rattle.sorting.proofs.records.place_of.Goals as goal
 
+pub loop-low-init : goal.loop-low-init
+loop-low-init c = between-all _ _ _
+
+pub loop-low-preserved-then-comes_before : goal.loop-low-preserved-then-comes_before
+loop-low-preserved-then-comes_before c = halved-right c.loop-low.invariant c.requires (omega arith) (omega arith) c.comes_before.ensures c.if-comes_before.true
+
+pub loop-low-preserved : goal.loop-low-preserved
+loop-low-preserved c = halved-left c.loop-low.invariant c.requires (omega arith) (omega arith) c.comes_before.ensures c.if-comes_before.false
+
 pub returns : goal.returns
-returns c =
-    let parted = numbers-parted c.args.image.now c.args.numbers.now c.args.number c.requires in
-    let point =
-    IsPartitionPoint-from_clause (λ i. is_before (standing c.args.image.now i c.args.number)) _ _ c.partition_point.ensures.partitioned parted (λ a r q k. search rules) in
-    place-parted _ _ _ c.requires c.partition_point.ensures.bound point
+returns c = between_none c.loop-low.invariant (omega arith)
